@@ -1,0 +1,1 @@
+//! The plain Rust counterpart of the proved programs, written from docs/ and not from their code.
