@@ -3,7 +3,7 @@ use mathlib.Core.Path.{ap}
 use native.Mathlib.Omega.{arith}
 use Rattle.plans.specs.Model.{exprOf}
 use Rattle.plans.proofs.Steps.{at-num, at-time, at-key, at-value, at-plus, at-minus, at-times, at-quotient-0, at-quotient, at-rest-0, at-rest, at-less, at-same, at-not}
-use Rattle.plans.proofs.exprs.+eval.Needs as need
+use Rattle.plans.proofs.exprs.Expr.+eval.Needs as need
 
 pub returns-in-Num : need.returns-in-Num
 returns-in-Num t c = at-num _ (ap exprOf (c .in-Num .is)) (search needs)
