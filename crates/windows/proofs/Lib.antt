@@ -1,0 +1,3 @@
+mod Loops
+mod Table
+mod Values
