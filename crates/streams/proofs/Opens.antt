@@ -221,6 +221,13 @@ unfolding ended
 above-ended m n k [] h = tt
 above-ended m n k (c ∷ cs) h = let r : Above n k (ended m cs) = above-ended m n k cs (h .1) in elim (leb (c .end) m) as (λ b. Above n k (cond b (c ∷ ended m cs) (ended m cs))) [ true ↦ (h .0, r) | false ↦ r ]
 
+pub sorted-ended : (m : ℕ) (cs : List Cell) → Sorted cs → Sorted (ended m cs)
+unfolding ended
+sorted-ended m [] s = tt
+sorted-ended m (c ∷ cs) s =
+    let r : Sorted (ended m cs) = sorted-ended m cs (s .1) in
+    elim (leb (c .end) m) as (λ b. Sorted (cond b (c ∷ ended m cs) (ended m cs))) [ true ↦ (above-ended m (c .end) (c .key) cs (s .0), r) | false ↦ r ]
+
 after-events : (n k : ℕ) (cs : List Cell) → 0 < n → Above n k cs → After (lessBy 1 n) k (eventsOf cs)
 unfolding eventsOf
 after-events n k [] h a = tt

@@ -17,7 +17,7 @@ use plans::stages::Aggregate;
 use std::alloc::Refused;
 
 #[derive(Clone, Copy)]
-pub struct Cell {
+pub(crate) struct Cell {
     pub end: Time,
     pub key: Key,
     pub value: Value,
@@ -87,7 +87,7 @@ fn holds(cells: &[Cell], at: usize, end: Time, key: Key) -> bool
 }
 
 // Adds a value of a window and key. Without memory the cells stay as they were.
-pub fn add(
+pub(crate) fn add(
     cells: &mut Vec<Cell>,
     how: Aggregate,
     end: Time,

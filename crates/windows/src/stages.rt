@@ -1,15 +1,17 @@
 // Events through the stages of a plan: what comes out.
 ghost use mathlib.Core.Path.{_≡_};
+ghost use mathlib.Core.Bool.{true};
 ghost use mathlib.Core.List.{map};
 ghost use Prim.Native.Nat.{_<_, _≤_, _^_};
 ghost use Rattle.std.specs.Of.Vec.{vec-items};
 ghost use Rattle.std.specs.Options.{Cases as BySome};
-ghost use Rattle.streams.specs.Meaning.{endOf, eventsOf};
+ghost use Rattle.streams.specs.Meaning.{endOf, eventsOf, throughAll};
+ghost use Rattle.streams.specs.Calls.{every, stageOk};
 ghost use Rattle.streams.specs.Order.{Sorted};
 ghost use Rattle.plans.specs.Model.{eventOf, stageOf, planOf};
 ghost use Rattle.windows.specs.declared.stages.Fault.the-variants.{Memory};
 ghost use Rattle.windows.specs.Model.{cellOf, logsOf};
-ghost use Rattle.windows.specs.Results.{Absorbed, Gives, Through, Gathered, Outcome};
+ghost use Rattle.windows.specs.Results.{events as eventsIn, Absorbed, Gives, Through, Gathered, Outcome};
 use crate::cells::Cell;
 use crate::cells::add;
 use crate::logs::append_in_time;
@@ -129,9 +131,23 @@ pub fn outcome(heap: Global, plan: &Plan, logs: &[Vec<Entry>]) -> Result<Vec<Eve
         return Err(Fault::BadPlan);
     }
     let mark = watermark(plan.late, logs);
-    let mut events = gather(heap, plan.late, logs)?;
-    for stage in plan.stages.iter() {
-        events = through(heap, stage, mark, &events)?;
+    let events = gather(heap, plan.late, logs)?;
+    through_all(heap, &plan.stages, mark, events)
+}
+
+// What comes of events by stages, one after the other.
+fn through_all(
+    heap: Global,
+    stages: &[Stage],
+    mark: Time,
+    events: Vec<Event>,
+) -> Result<Vec<Event>, Fault>
+    requires { ⌜ every stageOk (map stageOf (now stages)) ≡ true ⌝ }
+    ensures { λ r. ⌜ Gives (throughAll (map stageOf (now (stages .entry))) (mark .0) (eventsIn events)) r ⌝ }
+{
+    let mut so_far = events;
+    for stage in stages {
+        so_far = through(heap, stage, mark, &so_far)?;
     }
-    Ok(events)
+    Ok(so_far)
 }
