@@ -54,6 +54,10 @@ pub front : (xs : List ℕ) → 1 ≤ length xs → xs ≡ getD xs 0 0 ∷ take 
 front [] h = absurd (omega arith)
 front (x ∷ xs) h = ap (λ l. x ∷ l) (sym (take-all _ xs (omega arith)))
 
+-- how long what stands behind the first byte is
+pub behind : (xs : List ℕ) → 1 ≤ length xs → length (take (length xs - 1) (drop 1 xs)) + 1 ≡ length xs
+behind xs h = omega (arith, ap length (front xs h))
+
 pub none : (xs : List ℕ) → length xs < 1 → xs ≡ []
 none [] h = refl
 none (x ∷ xs) h = absurd (omega arith)

@@ -37,13 +37,31 @@ pub fn eight_from(bytes: &[u8]) -> Option<(u64, &[u8])>
     Some((u64::from_be_bytes([*a, *b, *c, *d, *e, *f, *g, *h]), rest))
 }
 
-// Writes the bytes of `part` over those of `out` from `at` on. Its callers have found room for the whole of what
-// they write, so it asks for that instead of refusing half-way.
-pub fn write_at(out: &mut [u8], at: usize, part: &[u8])
-    requires { ⌜ at + length (now part) ≤ length (now out) ⌝ }
-    ensures wrote { λ _. ⌜ take (at + length (now (part .entry))) (now (out .exit)) ≡ take at (now (out .entry)) ++ now (part .entry) ⌝ }
-    ensures kept { λ _. ⌜ drop (at + length (now (part .entry))) (now (out .exit)) ≡ drop (at + length (now (part .entry))) (now (out .entry)) ⌝ }
+// Each of these writes a number's bytes over those of `out` from `at` on. Callers have found room for the whole of
+// what they write, so it is asked for instead of refused half-way.
+pub fn write_two(out: &mut [u8], at: usize, n: u16)
+    requires { ⌜ at + 2 ≤ length (now out) ⌝ }
+    ensures wrote { λ _. ⌜ take (at + 2) (now (out .exit)) ≡ take at (now (out .entry)) ++ two n ⌝ }
+    ensures kept { λ _. ⌜ drop (at + 2) (now (out .exit)) ≡ drop (at + 2) (now (out .entry)) ⌝ }
 {
-    let end = at + part.len();
-    out[at..end].copy_from_slice(part);
+    let bytes = n.to_be_bytes();
+    out[at..at + 2].copy_from_slice(&bytes);
+}
+
+pub fn write_four(out: &mut [u8], at: usize, n: u32)
+    requires { ⌜ at + 4 ≤ length (now out) ⌝ }
+    ensures wrote { λ _. ⌜ take (at + 4) (now (out .exit)) ≡ take at (now (out .entry)) ++ four n ⌝ }
+    ensures kept { λ _. ⌜ drop (at + 4) (now (out .exit)) ≡ drop (at + 4) (now (out .entry)) ⌝ }
+{
+    let bytes = n.to_be_bytes();
+    out[at..at + 4].copy_from_slice(&bytes);
+}
+
+pub fn write_eight(out: &mut [u8], at: usize, n: u64)
+    requires { ⌜ at + 8 ≤ length (now out) ⌝ }
+    ensures wrote { λ _. ⌜ take (at + 8) (now (out .exit)) ≡ take at (now (out .entry)) ++ eight n ⌝ }
+    ensures kept { λ _. ⌜ drop (at + 8) (now (out .exit)) ≡ drop (at + 8) (now (out .entry)) ⌝ }
+{
+    let bytes = n.to_be_bytes();
+    out[at..at + 8].copy_from_slice(&bytes);
 }
