@@ -37,8 +37,8 @@ pub fn eight_from(bytes: &[u8]) -> Option<(u64, &[u8])>
     Some((u64::from_be_bytes([*a, *b, *c, *d, *e, *f, *g, *h]), rest))
 }
 
-// Each of these writes a number's bytes over those of `out` from `at` on. Callers have found room for the whole of
-// what they write, so it is asked for instead of refused half-way.
+// Each of these writes bytes over those of `out` from `at` on. Callers have found room for the whole of what they
+// write, so it is asked for instead of refused half-way.
 pub fn write_two(out: &mut [u8], at: usize, n: u16)
     requires { ⌜ at + 2 ≤ length (now out) ⌝ }
     ensures wrote { λ _. ⌜ take (at + 2) (now (out .exit)) ≡ take at (now (out .entry)) ++ two n ⌝ }
@@ -64,4 +64,13 @@ pub fn write_eight(out: &mut [u8], at: usize, n: u64)
 {
     let bytes = n.to_be_bytes();
     out[at..at + 8].copy_from_slice(&bytes);
+}
+
+pub fn write_bytes(out: &mut [u8], at: usize, part: &[u8])
+    requires { ⌜ at + length (now part) ≤ length (now out) ⌝ }
+    ensures wrote { λ _. ⌜ take (at + length (now (part .entry))) (now (out .exit)) ≡ take at (now (out .entry)) ++ now (part .entry) ⌝ }
+    ensures kept { λ _. ⌜ drop (at + length (now (part .entry))) (now (out .exit)) ≡ drop (at + length (now (part .entry))) (now (out .entry)) ⌝ }
+{
+    let end = at + part.len();
+    out[at..end].copy_from_slice(part);
 }

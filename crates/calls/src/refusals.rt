@@ -1,4 +1,4 @@
-// The refusal of a call that follows from the call itself and the number of logs.
+// Refusals: the number of each, and the one that follows from a call itself and the number of logs.
 use crate::kinds::Call;
 use crate::kinds::Refusal;
 use plans::entries::Entry;
@@ -11,7 +11,22 @@ ghost use Rattle.std.specs.declared.option.Option.the-variants.{Some, None};
 ghost use Rattle.plans.specs.Model.{entryOf};
 ghost use Rattle.streams.specs.Calls.{small, entryOk};
 ghost use Rattle.calls.specs.declared.kinds.Refusal.the-variants.{Invalid, NoLog};
+ghost use Rattle.calls.specs.Form.{numberOf};
 ghost use Rattle.calls.specs.Refuse.{Refuses};
+
+// The number that a refusal goes by.
+pub fn number(refusal: Refusal) -> u8
+    ensures { λ r. ⌜ r ≡ numberOf refusal ⌝ }
+{
+    match refusal {
+        Refusal::Invalid => 1,
+        Refusal::NoLog => 2,
+        Refusal::Dropped => 3,
+        Refusal::NotOut => 4,
+        Refusal::Busy => 11,
+        Refusal::NotBuilt => 12,
+    }
+}
 
 // Times are below this: 2 to the 62.
 const TIMES_END: u64 = 4_611_686_018_427_387_904;
