@@ -107,10 +107,10 @@ fn write_full(out: &mut [u8]) -> Option<usize>
     Some(1)
 }
 
-fn write_out(events: Events<'_>, out: &mut [u8]) -> Option<usize>
-    ensures { λ r. ⌜ Encodes (Outs (eventsIn (now (events .entry .bytes)))) (now (out .entry)) (now (out .exit)) r ⌝ }
+fn write_out(bytes: &[u8], out: &mut [u8]) -> Option<usize>
+    ensures { λ r. ⌜ Encodes (Outs (eventsIn (now (bytes .entry)))) (now (out .entry)) (now (out .exit)) r ⌝ }
 {
-    let Ok(count) = u16::try_from(events.len()) else {
+    let Ok(count) = u16::try_from(bytes.len() / 24) else {
         return None;
     };
     let size = 24 * usize::from(count);
@@ -119,7 +119,7 @@ fn write_out(events: Events<'_>, out: &mut [u8]) -> Option<usize>
     }
     out[0] = OUT;
     write_two(out, 1, count);
-    write_bytes(out, 3, &events.bytes[0..size]);
+    write_bytes(out, 3, &bytes[0..size]);
     Some(3 + size)
 }
 
@@ -131,7 +131,7 @@ pub fn encode(reply: Reply<'_>, out: &mut [u8]) -> Option<usize>
     match reply {
         Reply::Refused { refusal } => write_refused(refusal, out),
         Reply::Yes => write_yes(out),
-        Reply::Out { events } => write_out(events, out),
+        Reply::Out { events } => write_out(events.bytes, out),
         Reply::Full => write_full(out),
     }
 }
