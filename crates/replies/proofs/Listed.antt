@@ -6,11 +6,11 @@ use native.Mathlib.Omega.{arith}
 use lib.ListN.{length, getD, take, drop, length-drop}
 use lib.Seq.{take-all, getD-drop, take-append-add}
 use Rattle.streams.specs.Meaning.{Event}
-use Rattle.bytes.specs.Form.{eight}
+use Rattle.bytes.specs.Form.{eight, wordOf}
 use Rattle.bytes.proofs.Bytes.{eight-of, eight-value, eight-same}
 use Rattle.bytes.proofs.Front.{drop-more}
 use Rattle.replies.specs.Form.{EachFit}
-use Rattle.replies.specs.Listing.{listing, wordOf, firstOf, listed, eventsIn}
+use Rattle.replies.specs.Listing.{listing, firstOf, listed, eventsIn}
 
 pub length-listed : (n : ℕ) (bs : List ℕ) → length (listed n bs) ≡ n
 length-listed zero bs = refl

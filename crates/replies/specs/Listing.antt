@@ -1,23 +1,18 @@
 -- Events one behind the other as bytes: 24 for each, its time, key and value, high byte first. Assumes nothing.
 use mathlib.Core.Path.{_≡_}
 use mathlib.Core.List.{List, [], _∷_, _++_}
-use Prim.Native.Nat.{ℕ, zero, suc, _+_, _*_, _/_, _<_, _≤_}
+use Prim.Native.Nat.{ℕ, zero, suc, _/_, _<_, _≤_}
 use lib.ListN.{length, getD, drop}
 use Rattle.std.specs.declared.option.Option.{Option}
 use Rattle.std.specs.declared.option.Option.the-variants.{Some, None}
 use Rattle.streams.specs.Meaning as spec
-use Rattle.bytes.specs.Form.{eight}
+use Rattle.bytes.specs.Form.{eight, wordOf}
 use Rattle.plans.specs.Model.{eventOf}
 use Rattle.plans.specs.declared.entries.Event.{Event}
 
 abbrev pub listing : List spec.Event → List ℕ
 listing [] = []
 listing (e ∷ es) = eight (e .time) ++ eight (e .key) ++ eight (e .value) ++ listing es
-
--- the number in the first eight bytes
-abbrev pub wordOf : List ℕ → ℕ
-wordOf bs =
-    getD bs 0 0 * 72057594037927936 + getD bs 1 0 * 281474976710656 + getD bs 2 0 * 1099511627776 + getD bs 3 0 * 4294967296 + getD bs 4 0 * 16777216 + getD bs 5 0 * 65536 + getD bs 6 0 * 256 + getD bs 7 0
 
 abbrev pub firstOf : List ℕ → spec.Event
 firstOf bs = record { time = wordOf bs; key = wordOf (drop 8 bs); value = wordOf (drop 16 bs) }

@@ -7,7 +7,8 @@ use plans::numbers::Value;
 ghost use mathlib.Core.Path.{_≡_};
 ghost use Prim.Native.Nat.{_+_, _≤_};
 ghost use lib.ListN.{length, drop};
-ghost use Rattle.replies.specs.Listing.{wordOf, eventsIn, Got};
+ghost use Rattle.bytes.specs.Form.{wordOf};
+ghost use Rattle.replies.specs.Listing.{eventsIn, Got};
 
 // A part of some bytes, taken as events. What stands behind the last whole one counts for nothing.
 #[derive(Clone, Copy)]
