@@ -29,8 +29,8 @@ four-of (a ∷ b ∷ c ∷ d ∷ l) n f h e =
     same2 (omega arith) (omega arith) (same2 (omega arith) (omega arith) (sym (take-all _ l (omega arith))))
 
 pub eight-of : (xs : List ℕ) (n : ℕ) → ((i : ℕ) → getD xs i 0 < 256) → 8 ≤ length xs →
-  n ≡ getD xs 0 0 * 72057594037927936 + getD xs 1 0 * 281474976710656 + getD xs 2 0 * 1099511627776 + getD xs 3 0 * 4294967296 + getD xs 4 0 * 16777216 + getD xs 5 0 * 65536 + getD xs 6 0 * 256 + getD xs 7 0 →
-  xs ≡ eight n ++ take (length xs - 8) (drop 8 xs)
+    n ≡ getD xs 0 0 * 72057594037927936 + getD xs 1 0 * 281474976710656 + getD xs 2 0 * 1099511627776 + getD xs 3 0 * 4294967296 + getD xs 4 0 * 16777216 + getD xs 5 0 * 65536 + getD xs 6 0 * 256 + getD xs 7 0 →
+    xs ≡ eight n ++ take (length xs - 8) (drop 8 xs)
 eight-of [] n f h e = absurd (omega arith)
 eight-of (a ∷ []) n f h e = absurd (omega arith)
 eight-of (a ∷ b ∷ []) n f h e = absurd (omega arith)
@@ -66,7 +66,7 @@ pub two-value : (n : ℕ) → n < 65536 → n ≡ n / 256 % 256 * 256 + n % 256
 two-value n h = omega arith
 
 pub eight-value : (n : ℕ) → n < 18446744073709551616 →
-  n ≡ n / 72057594037927936 % 256 * 72057594037927936 + n / 281474976710656 % 256 * 281474976710656 + n / 1099511627776 % 256 * 1099511627776 + n / 4294967296 % 256 * 4294967296 + n / 16777216 % 256 * 16777216 + n / 65536 % 256 * 65536 + n / 256 % 256 * 256 + n % 256
+    n ≡ n / 72057594037927936 % 256 * 72057594037927936 + n / 281474976710656 % 256 * 281474976710656 + n / 1099511627776 % 256 * 1099511627776 + n / 4294967296 % 256 * 4294967296 + n / 16777216 % 256 * 16777216 + n / 65536 % 256 * 65536 + n / 256 % 256 * 256 + n % 256
 eight-value n h = omega arith
 
 pub four-value : (n : ℕ) → n < 4294967296 → n ≡ n / 16777216 % 256 * 16777216 + n / 65536 % 256 * 65536 + n / 256 % 256 * 256 + n % 256

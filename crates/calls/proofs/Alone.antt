@@ -42,9 +42,9 @@ pub happened : (e : Event) → e .key < top → e .value < top → entryOk (Ev e
 unfolding entryOk
 happened e k v = let hk : ltb (e .key) top ≡ true = lt-ltb _ _ k in let hv : ltb (e .value) top ≡ true = lt-ltb _ _ v in rw (hk, hv) (both (small (e .time)))
   where
-  both : (b : Bool) → (b && true && true) ≡ b
-  both true = refl
-  both false = refl
+    both : (b : Bool) → (b && true && true) ≡ b
+    both true = refl
+    both false = refl
 
 pub still : (t : ℕ) → entryOk (Still t) ≡ small t
 unfolding entryOk

@@ -67,39 +67,39 @@ begun k bs h u = h (kinds (u .2) ∙ built (u .0) (u .3))
 pub no-put : (bs : List ℕ) → (length bs ≡ 25 → ⊥) → Reads (1 ∷ bs) (Err Invalid)
 no-put bs h = (begun 1 bs (λ e. omega arith), λ c f e. h (ap length (ap (drop 1) e) ∙ long c (sym (kinds e))))
   where
-  long : (c : Call) → kindOf c ≡ 1 → length (numbersOf c) ≡ 25
-  long (Put l (Happened e)) k = refl
-  long (Put l (Still t)) k = absurd (omega arith)
-  long (Out f m) k = absurd (omega arith)
-  long (Drop b) k = absurd (omega arith)
+    long : (c : Call) → kindOf c ≡ 1 → length (numbersOf c) ≡ 25
+    long (Put l (Happened e)) k = refl
+    long (Put l (Still t)) k = absurd (omega arith)
+    long (Out f m) k = absurd (omega arith)
+    long (Drop b) k = absurd (omega arith)
 
 pub no-still : (bs : List ℕ) → (length bs ≡ 9 → ⊥) → Reads (2 ∷ bs) (Err Invalid)
 no-still bs h = (begun 2 bs (λ e. omega arith), λ c f e. h (ap length (ap (drop 1) e) ∙ long c (sym (kinds e))))
   where
-  long : (c : Call) → kindOf c ≡ 2 → length (numbersOf c) ≡ 9
-  long (Put l (Happened e)) k = absurd (omega arith)
-  long (Put l (Still t)) k = refl
-  long (Out f m) k = absurd (omega arith)
-  long (Drop b) k = absurd (omega arith)
+    long : (c : Call) → kindOf c ≡ 2 → length (numbersOf c) ≡ 9
+    long (Put l (Happened e)) k = absurd (omega arith)
+    long (Put l (Still t)) k = refl
+    long (Out f m) k = absurd (omega arith)
+    long (Drop b) k = absurd (omega arith)
 
 pub no-out : (bs : List ℕ) → (length bs ≡ 10 → ⊥) → Reads (3 ∷ bs) (Err Invalid)
 no-out bs h = (begun 3 bs (λ e. omega arith), λ c f e. h (ap length (ap (drop 1) e) ∙ long c (sym (kinds e))))
   where
-  long : (c : Call) → kindOf c ≡ 3 → length (numbersOf c) ≡ 10
-  long (Put l (Happened e)) k = absurd (omega arith)
-  long (Put l (Still t)) k = absurd (omega arith)
-  long (Out f m) k = refl
-  long (Drop b) k = absurd (omega arith)
+    long : (c : Call) → kindOf c ≡ 3 → length (numbersOf c) ≡ 10
+    long (Put l (Happened e)) k = absurd (omega arith)
+    long (Put l (Still t)) k = absurd (omega arith)
+    long (Out f m) k = refl
+    long (Drop b) k = absurd (omega arith)
 
 -- kinds go from 1 to 4
 pub no-kind : (k : ℕ) (bs : List ℕ) → (k ≡ 1 → ⊥) → (k ≡ 2 → ⊥) → (k ≡ 3 → ⊥) → (k ≡ 4 → ⊥) → Reads (k ∷ bs) (Err Invalid)
 no-kind k bs n1 n2 n3 n4 = (begun k bs n4, λ c f e. other c (kinds e))
   where
-  other : (c : Call) → k ≡ kindOf c → ⊥
-  other (Put l (Happened e)) h = n1 h
-  other (Put l (Still t)) h = n2 h
-  other (Out f m) h = n3 h
-  other (Drop b) h = n4 h
+    other : (c : Call) → k ≡ kindOf c → ⊥
+    other (Put l (Happened e)) h = n1 h
+    other (Put l (Still t)) h = n2 h
+    other (Out f m) h = n3 h
+    other (Drop b) h = n4 h
 
 pub no-bytes : Reads [] (Err Invalid)
 no-bytes = (λ u. omega (arith, ap length (u .2)), λ c f e. omega (arith, ap length e))

@@ -19,8 +19,11 @@ ghost use Rattle.calls.specs.Form.{Reads, ReadAgain, Encodes};
 
 // The kinds of calls, as bytes say them.
 const PUT: u8 = 1;
+
 const STILL: u8 = 2;
+
 const OUT: u8 = 3;
+
 const DROP: u8 = 4;
 
 fn put_from(b: &[u8]) -> Result<Call, Refusal>
@@ -41,8 +44,15 @@ fn put_from(b: &[u8]) -> Result<Call, Refusal>
     let [] = more else {
         return Err(Refusal::Invalid);
     };
-    let event = Event { time: Time(time), key: Key(key), value: Value(value) };
-    Ok(Call::Put { log: LogNumber(*log), entry: Entry::Happened(event) })
+    let event = Event {
+        time: Time(time),
+        key: Key(key),
+        value: Value(value),
+    };
+    Ok(Call::Put {
+        log: LogNumber(*log),
+        entry: Entry::Happened(event),
+    })
 }
 
 fn still_from(b: &[u8]) -> Result<Call, Refusal>
@@ -57,7 +67,10 @@ fn still_from(b: &[u8]) -> Result<Call, Refusal>
     let [] = more else {
         return Err(Refusal::Invalid);
     };
-    Ok(Call::Put { log: LogNumber(*log), entry: Entry::Still(Time(time)) })
+    Ok(Call::Put {
+        log: LogNumber(*log),
+        entry: Entry::Still(Time(time)),
+    })
 }
 
 fn out_from(b: &[u8]) -> Result<Call, Refusal>
@@ -72,7 +85,10 @@ fn out_from(b: &[u8]) -> Result<Call, Refusal>
     let [] = more else {
         return Err(Refusal::Invalid);
     };
-    Ok(Call::Out { from: Place(from), most })
+    Ok(Call::Out {
+        from: Place(from),
+        most,
+    })
 }
 
 // The call that has just these bytes. Dropping is not built yet: what begins as such a call is refused unread.
@@ -146,8 +162,14 @@ pub fn encode(call: Call, out: &mut [u8]) -> Option<usize>
     ensures { λ r. ⌜ Encodes call (now (out .entry)) (now (out .exit)) r ⌝ }
 {
     match call {
-        Call::Put { log, entry: Entry::Happened(event) } => write_put(log, event, out),
-        Call::Put { log, entry: Entry::Still(time) } => write_still(log, time, out),
+        Call::Put {
+            log,
+            entry: Entry::Happened(event),
+        } => write_put(log, event, out),
+        Call::Put {
+            log,
+            entry: Entry::Still(time),
+        } => write_still(log, time, out),
         Call::Out { from, most } => write_out(from, most, out),
         Call::Drop { before } => write_drop(before, out),
     }

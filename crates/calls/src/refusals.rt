@@ -37,7 +37,11 @@ const MOST: u16 = 1024;
 fn bad_time(time: Time) -> Option<Refusal>
     ensures { λ r. ⌜ r ≡ cond (small (time .0)) None (Some Invalid) ⌝ }
 {
-    if time.0 < TIMES_END { None } else { Some(Refusal::Invalid) }
+    if time.0 < TIMES_END {
+        None
+    } else {
+        Some(Refusal::Invalid)
+    }
 }
 
 fn bad_entry(entry: Entry) -> Option<Refusal>
@@ -52,13 +56,21 @@ fn bad_entry(entry: Entry) -> Option<Refusal>
 fn no_such_log(log: LogNumber, logs: u16) -> Option<Refusal>
     ensures { λ r. ⌜ r ≡ cond (ltb (log .0) logs) None (Some NoLog) ⌝ }
 {
-    if u16::from(log.0) < logs { None } else { Some(Refusal::NoLog) }
+    if u16::from(log.0) < logs {
+        None
+    } else {
+        Some(Refusal::NoLog)
+    }
 }
 
 fn too_many(most: u16) -> Option<Refusal>
     ensures { λ r. ⌜ r ≡ cond (leb most 1024) None (Some Invalid) ⌝ }
 {
-    if most <= MOST { None } else { Some(Refusal::Invalid) }
+    if most <= MOST {
+        None
+    } else {
+        Some(Refusal::Invalid)
+    }
 }
 
 // The refusal that depends on nothing but the call: that it is not built before all, then the lowest.

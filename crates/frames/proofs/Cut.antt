@@ -31,7 +31,7 @@ in-front t l ls (Stops f) b = refl
 
 -- one cut, at the first line
 step : (t : Traffic) (k : ℕ) (a b : List ℕ) → length a ≤ suc k → ((r : List ℕ) → length r ≤ k → streamOf t (r ++ b) ≡ more t (upTo k t r .lines) (upTo k t r .end) b) →
-  (s : Seen) → Later s b (seen t (a ++ b)) → Shorter s (length a) → streamOf t (a ++ b) ≡ more t (onward s a (upTo k t) .lines) (onward s a (upTo k t) .end) b
+    (s : Seen) → Later s b (seen t (a ++ b)) → Shorter s (length a) → streamOf t (a ++ b) ≡ more t (onward s a (upTo k t) .lines) (onward s a (upTo k t) .end) b
 unfolding upTo
 step t k a b h ih NotYet w sh = refl
 step t k a b h ih (Refused f) w sh = ap (λ (s : Seen). onward s (a ++ b) (upTo (length (a ++ b)) t)) w

@@ -95,26 +95,26 @@ module _ (t : Traffic) (a b : List ℕ) where
   pub later : Later (seen t a) b (seen t (a ++ b))
   later = go (way t a)
     where
-    go : Way t a → Later (seen t a) b (seen t (a ++ b))
-    go (short h) = as' (at-short t a h) tt
-    go (long h1 h2) = let n = length-append a b in let e = four-on a b h1 in as' (at-long t a h1 h2) (at-long t (a ++ b) (omega arith) (omega arith))
-    go (small h1 h2 h3) = let n = length-append a b in let e = four-on a b h1 in as' (at-small t a h1 h2 h3) (at-small t (a ++ b) (omega arith) (omega arith) (omega arith))
-    go (head h1 h2 h3 h4) = as' (at-head t a h1 h2 h3 h4) tt
-    go (kind h2 h3 h4 h5) =
-        let n = length-append a b in
-        let e = four-on a b (omega arith) in
-        let k = ap (least t) (getD-append-left a b 0 12 (omega arith)) in
-        as' (at-kind t a h2 h3 h4 h5) (at-kind t (a ++ b) (omega arith) (omega arith) (omega arith) (omega arith))
-    go (wait h2 h3 h4 h5 h6) = as' (at-wait t a h2 h3 h4 h5 h6) tt
-    go (whole h2 h3 h4 h5 h6) =
-        let n = length-append a b in
-        let e = four-on a b (omega arith) in
-        let k = ap (least t) (getD-append-left a b 0 12 (omega arith)) in
-        let number : wordOf (drop 4 (a ++ b)) ≡ wordOf (drop 4 a) = ap wordOf (drop-append-le 4 a b (omega arith)) ∙ word-on (drop 4 a) b (simp length-drop (omega arith)) in
-        let body : take (fourOf (a ++ b) - 8) (drop 12 (a ++ b)) ≡ take (fourOf a - 8) (drop 12 a) =
-              (λ i. take (e i - 8) (drop-append-le 12 a b (omega arith) i)) ∙ take-append-le (fourOf a - 8) (drop 12 a) b (simp length-drop (omega arith)) in
-        let rest : drop (4 + fourOf (a ++ b)) (a ++ b) ≡ drop (4 + fourOf a) a ++ b = ap (λ n. drop (4 + n) (a ++ b)) e ∙ drop-append-le (4 + fourOf a) a b h6 in
-        as' (at-whole t a h2 h3 h4 h5 h6) (at-whole t (a ++ b) (omega arith) (omega arith) (omega arith) (omega arith) (omega arith) ∙ (λ i. Whole (number i) (body i) (rest i)))
+      go : Way t a → Later (seen t a) b (seen t (a ++ b))
+      go (short h) = as' (at-short t a h) tt
+      go (long h1 h2) = let n = length-append a b in let e = four-on a b h1 in as' (at-long t a h1 h2) (at-long t (a ++ b) (omega arith) (omega arith))
+      go (small h1 h2 h3) = let n = length-append a b in let e = four-on a b h1 in as' (at-small t a h1 h2 h3) (at-small t (a ++ b) (omega arith) (omega arith) (omega arith))
+      go (head h1 h2 h3 h4) = as' (at-head t a h1 h2 h3 h4) tt
+      go (kind h2 h3 h4 h5) =
+          let n = length-append a b in
+          let e = four-on a b (omega arith) in
+          let k = ap (least t) (getD-append-left a b 0 12 (omega arith)) in
+          as' (at-kind t a h2 h3 h4 h5) (at-kind t (a ++ b) (omega arith) (omega arith) (omega arith) (omega arith))
+      go (wait h2 h3 h4 h5 h6) = as' (at-wait t a h2 h3 h4 h5 h6) tt
+      go (whole h2 h3 h4 h5 h6) =
+          let n = length-append a b in
+          let e = four-on a b (omega arith) in
+          let k = ap (least t) (getD-append-left a b 0 12 (omega arith)) in
+          let number : wordOf (drop 4 (a ++ b)) ≡ wordOf (drop 4 a) = ap wordOf (drop-append-le 4 a b (omega arith)) ∙ word-on (drop 4 a) b (simp length-drop (omega arith)) in
+          let body : take (fourOf (a ++ b) - 8) (drop 12 (a ++ b)) ≡ take (fourOf a - 8) (drop 12 a) =
+          (λ i. take (e i - 8) (drop-append-le 12 a b (omega arith) i)) ∙ take-append-le (fourOf a - 8) (drop 12 a) b (simp length-drop (omega arith)) in
+          let rest : drop (4 + fourOf (a ++ b)) (a ++ b) ≡ drop (4 + fourOf a) a ++ b = ap (λ n. drop (4 + n) (a ++ b)) e ∙ drop-append-le (4 + fourOf a) a b h6 in
+          as' (at-whole t a h2 h3 h4 h5 h6) (at-whole t (a ++ b) (omega arith) (omega arith) (omega arith) (omega arith) (omega arith) ∙ (λ i. Whole (number i) (body i) (rest i)))
 
 -- what is left behind a line is shorter
 abbrev pub Shorter : Seen → ℕ → Type 0
@@ -129,21 +129,21 @@ module _ (t : Traffic) (a : List ℕ) where
   pub shorter : Shorter (seen t a) (length a)
   shorter = go (way t a)
     where
-    go : Way t a → Shorter (seen t a) (length a)
-    go (short h) = so (at-short t a h) tt
-    go (long h1 h2) = so (at-long t a h1 h2) tt
-    go (small h1 h2 h3) = so (at-small t a h1 h2 h3) tt
-    go (head h1 h2 h3 h4) = so (at-head t a h1 h2 h3 h4) tt
-    go (kind h2 h3 h4 h5) = so (at-kind t a h2 h3 h4 h5) tt
-    go (wait h2 h3 h4 h5 h6) = so (at-wait t a h2 h3 h4 h5 h6) tt
-    go (whole h2 h3 h4 h5 h6) = so (at-whole t a h2 h3 h4 h5 h6) (simp length-drop (omega arith))
+      go : Way t a → Shorter (seen t a) (length a)
+      go (short h) = so (at-short t a h) tt
+      go (long h1 h2) = so (at-long t a h1 h2) tt
+      go (small h1 h2 h3) = so (at-small t a h1 h2 h3) tt
+      go (head h1 h2 h3 h4) = so (at-head t a h1 h2 h3 h4) tt
+      go (kind h2 h3 h4 h5) = so (at-kind t a h2 h3 h4 h5) tt
+      go (wait h2 h3 h4 h5 h6) = so (at-wait t a h2 h3 h4 h5 h6) tt
+      go (whole h2 h3 h4 h5 h6) = so (at-whole t a h2 h3 h4 h5 h6) (simp length-drop (omega arith))
 
 -- what is seen where the numbers are known, as they are read one after the other
 pub number-of : (n : ℕ) (bs rest : List ℕ) → n < 4294967296 → bs ≡ four n ++ rest → fourOf bs ≡ n
 number-of n bs rest h e = ap fourOf e ∙ sym (four-value n h)
 
 pub whole-seen : (t : Traffic) (n m : ℕ) (bs bodies : List ℕ) → n ≤ 1048576 → m < 18446744073709551616 → bs ≡ four n ++ eight m ++ bodies → 9 ≤ n → 1 ≤ length bodies → 8 + least t (getD bodies 0 0) ≤ n → n ≤ 8 + length bodies →
-  seen t bs ≡ Whole m (take (n - 8) bodies) (drop (n - 8) bodies)
+    seen t bs ≡ Whole m (take (n - 8) bodies) (drop (n - 8) bodies)
 whole-seen t n m bs bodies h2 hm e h3 h4 h5 h6 =
     let n-is = number-of n bs _ (omega arith) e in
     let long = ap length e in

@@ -19,8 +19,14 @@ pub enum Fault {
 #[derive(Clone, Copy)]
 pub enum Frame<'a> {
     // A line, and what is left behind it.
-    Whole { number: CallNumber, body: &'a [u8], rest: &'a [u8] },
+    Whole {
+        number: CallNumber,
+        body: &'a [u8],
+        rest: &'a [u8],
+    },
     // The line goes on beyond what has come so far.
     NotYet,
-    Refused { fault: Fault },
+    Refused {
+        fault: Fault,
+    },
 }

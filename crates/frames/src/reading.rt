@@ -34,10 +34,14 @@ pub fn read(traffic: Traffic, bytes: &[u8]) -> Frame<'_>
         return Frame::NotYet;
     };
     if length > LONGEST {
-        return Frame::Refused { fault: Fault::TooLong };
+        return Frame::Refused {
+            fault: Fault::TooLong,
+        };
     }
     if length < 9 {
-        return Frame::Refused { fault: Fault::TooShort };
+        return Frame::Refused {
+            fault: Fault::TooShort,
+        };
     }
     let Some((number, bodies)) = eight_from(numbered) else {
         return Frame::NotYet;
@@ -46,14 +50,20 @@ pub fn read(traffic: Traffic, bytes: &[u8]) -> Frame<'_>
         return Frame::NotYet;
     };
     if length < 8 + least(traffic, *kind) {
-        return Frame::Refused { fault: Fault::TooShort };
+        return Frame::Refused {
+            fault: Fault::TooShort,
+        };
     }
     let size = (length - 8) as usize;
     if bodies.len() < size {
         return Frame::NotYet;
     }
     let (body, rest) = bodies.split_at(size);
-    Frame::Whole { number: CallNumber(number), body, rest }
+    Frame::Whole {
+        number: CallNumber(number),
+        body,
+        rest,
+    }
 }
 
 // However a stream is cut into pieces, the same lines are read.

@@ -74,8 +74,8 @@ no-out b h Full f e = absurd (omega (arith, kinds e))
 
 -- the bytes of an answer with events, written in three steps
 pub wrote-out : (B before first after part : List ℕ) (m : ℕ) → ((i : ℕ) → getD B i 0 < 256) → length B / 24 ≡ m → part ≡ take (24 * m) B → 3 + 24 * m ≤ length before → 3 + 24 * m ≤ length after →
-  take 3 first ≡ take 1 (set before 0 2) ++ two m → drop 3 first ≡ drop 3 (set before 0 2) → take (3 + length part) after ≡ take 3 first ++ part → drop (3 + length part) after ≡ drop (3 + length part) first →
-  Written (Outs (eventsIn B)) (3 + 24 * m) before after
+    take 3 first ≡ take 1 (set before 0 2) ++ two m → drop 3 first ≡ drop 3 (set before 0 2) → take (3 + length part) after ≡ take 3 first ++ part → drop (3 + length part) after ≡ drop (3 + length part) first →
+    Written (Outs (eventsIn B)) (3 + 24 * m) before after
 wrote-out B before first after part m f is p room room' w1 k1 w2 k2 =
     let long : length part ≡ 24 * m = ap length p ∙ length-take-le (24 * m) B (omega arith) in
     let n-is : 3 + length part ≡ 3 + 24 * m = omega arith in
@@ -86,8 +86,8 @@ wrote-out B before first after part m f is p room room' w1 k1 w2 k2 =
       kept = ap (λ k. drop k after) (sym n-is) ∙ k2 ∙ ap (λ k. drop k first) n-is ∙ later 3 (24 * m) first (set before 0 2) k1 ∙ past before;
     }
   where
-  past : (l : List ℕ) → drop (3 + 24 * m) (set l 0 2) ≡ drop (3 + 24 * m) l
-  past l = let e : suc (2 + 24 * m) ≡ 3 + 24 * m = omega arith in subst (λ (k : ℕ). drop k (set l 0 2) ≡ drop k l) e (past-one (2 + 24 * m) 2 l)
+    past : (l : List ℕ) → drop (3 + 24 * m) (set l 0 2) ≡ drop (3 + 24 * m) l
+    past l = let e : suc (2 + 24 * m) ≡ 3 + 24 * m = omega arith in subst (λ (k : ℕ). drop k (set l 0 2) ≡ drop k l) e (past-one (2 + 24 * m) 2 l)
 
 -- how long an answer with events is
 pub out-long : (B : List ℕ) (m : ℕ) → length B / 24 ≡ m → length (form (Outs (eventsIn B))) ≡ 3 + 24 * m

@@ -17,12 +17,15 @@ ghost use Rattle.replies.specs.Form.{replyOf, Reads, Encodes};
 
 // The kinds of answers, as bytes say them.
 const REFUSED: u8 = 0;
+
 const YES: u8 = 1;
+
 const OUT: u8 = 2;
+
 const FULL: u8 = 3;
 
 // The refusal that goes by a number.
-fn refusal_by(number: u8) -> Option<Refusal>
+pub fn refusal_by(number: u8) -> Option<Refusal>
     ensures { λ r. ⌜ BySome r ((q : Why) → numberOf q ≡ number → ⊥) (λ q. numberOf q ≡ number) ⌝ }
 {
     match number {
@@ -57,7 +60,9 @@ fn out_from(b: &[u8]) -> Option<Reply<'_>>
     if bytes.len() != 24 * usize::from(count) {
         return None;
     }
-    Some(Reply::Out { events: Events { bytes } })
+    Some(Reply::Out {
+        events: Events { bytes },
+    })
 }
 
 // The answer that has just these bytes.

@@ -45,6 +45,10 @@ impl<'a> Events<'a> {
         let time = word_at(self.bytes, at);
         let key = word_at(self.bytes, at + 8);
         let value = word_at(self.bytes, at + 16);
-        Some(Event { time: Time(time), key: Key(key), value: Value(value) })
+        Some(Event {
+            time: Time(time),
+            key: Key(key),
+            value: Value(value),
+        })
     }
 }

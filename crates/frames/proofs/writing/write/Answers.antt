@@ -19,8 +19,8 @@ returns c =
       within = search needs;
       bytes = ap (λ k. take k (c .write-bytes .last .out)) end ∙ three .wrote ∙ ap (λ l. l ++ c .args .body .now) (two .wrote ∙ ap (λ l. l ++ eight (c .args .number .0)) (one .wrote));
       kept = ap (λ k. drop k (c .write-bytes .last .out)) end
-        ∙ three .kept
-        ∙ later 12 n (c .write-eight .last .out) (c .write-four .last .out) (two .kept)
-        ∙ ap (λ k. drop k (c .write-four .last .out)) (sym end)
-        ∙ later 4 (8 + n) (c .write-four .last .out) (c .args .out .now) (one .kept);
+          ∙ three .kept
+          ∙ later 12 n (c .write-eight .last .out) (c .write-four .last .out) (two .kept)
+          ∙ ap (λ k. drop k (c .write-four .last .out)) (sym end)
+          ∙ later 4 (8 + n) (c .write-four .last .out) (c .args .out .now) (one .kept);
     }
