@@ -130,20 +130,20 @@ leaf bs =
     (cond (isWord (codes "time") bs) (got Time (drop 4 bs))
       (cond (isWord (codes "key") bs) (got Key (drop 3 bs)) (cond (isWord (codes "value") bs) (got Value (drop 5 bs)) (bad Operand bs))))
 
--- `bracket` reads from an opening bracket to the closing one
-unfoldable pub factor : (bracket : Reader Expr) → (nots : ℕ) → Reader Expr
-factor bracket zero bs = cond (is 33 (skip bs)) (bad Parts (skip bs)) (cond (is 40 (skip bs)) (bracket (skip bs)) (leaf (skip bs)))
-factor bracket (suc nots) bs =
-    cond (is 33 (skip bs)) (after (factor bracket nots (next (skip bs))) (λ a rest. negate (skip bs) a rest))
-    (cond (is 40 (skip bs)) (bracket (skip bs)) (leaf (skip bs)))
+-- `inner` reads from an opening bracket to the closing one
+unfoldable pub factor : (inner : Reader Expr) → (nots : ℕ) → Reader Expr
+factor inner zero bs = cond (is 33 (skip bs)) (bad Parts (skip bs)) (cond (is 40 (skip bs)) (inner (skip bs)) (leaf (skip bs)))
+factor inner (suc nots) bs =
+    cond (is 33 (skip bs)) (after (factor inner nots (next (skip bs))) (λ a rest. negate (skip bs) a rest))
+    (cond (is 40 (skip bs)) (inner (skip bs)) (leaf (skip bs)))
 
 -- the operands of a sum are products, those of a product are factors
-unfoldable pub operand : Level → (bracket : Reader Expr) → Reader Expr
-operand level.Sum bracket bs = chain level.Product (factor bracket 64) bs
-operand level.Product bracket bs = factor bracket 64 bs
+unfoldable pub operand : Level → (inner : Reader Expr) → Reader Expr
+operand level.Sum inner bs = chain level.Product (factor inner 64) bs
+operand level.Product inner bs = factor inner 64 bs
 
-unfoldable pub chained : Level → (bracket : Reader Expr) → Reader Expr
-chained l bracket bs = chain l (operand l bracket) bs
+unfoldable pub chained : Level → (inner : Reader Expr) → Reader Expr
+chained l inner bs = chain l (operand l inner) bs
 
 -- comparisons do not chain
 unfoldable pub single : Expr → Reader Expr
@@ -158,10 +158,18 @@ compared sum bs =
 unfoldable pub closed : Expr → Reader Expr
 closed a rest = cond (is 41 (skip rest)) (got a (next (skip rest))) (bad Close (skip rest))
 
+unfoldable pub inBrackets : Reader Expr → Reader Expr
+inBrackets inner place = after (inner (next place)) closed
+
 -- in which brackets stand at most `deep` deep in each other
 unfoldable pub expression : (deep : ℕ) → Reader Expr
 expression zero bs = compared (chained level.Sum (bad Deep)) bs
-expression (suc deep) bs = compared (chained level.Sum (λ place. after (expression deep (next place)) closed)) bs
+expression (suc deep) bs = compared (chained level.Sum (inBrackets (expression deep))) bs
+
+-- from an opening bracket to the closing one, where so many more may stand in each other
+unfoldable pub bracket : (deep : ℕ) → Reader Expr
+bracket zero place = bad Deep place
+bracket (suc deep) place = inBrackets (expression deep) place
 
 -- STAGES
 -- a part of a stage that may be left out
