@@ -1,0 +1,35 @@
+-- What the answers of the readers of stages and plans say. Assumes nothing.
+use mathlib.Core.Path.{_≡_}
+use mathlib.Core.List.{List, [], map}
+use Prim.Native.Nat.{ℕ}
+use Rattle.std.specs.Of.Vec.{vec-items}
+use Rattle.std.specs.declared.alloc.Global.{Global}
+use Rattle.std.specs.declared.vec.Vec.{Vec}
+use Rattle.std.specs.declared.result.Result.{Result}
+use Rattle.std.specs.declared.result.Result.the-variants.{Ok, Err}
+use Rattle.streams.specs.Meaning as spec
+use Rattle.plans.specs.declared.stages.Stage.{Stage}
+use Rattle.plans.specs.declared.stages.Plan.{Plan}
+use Rattle.plans.specs.Model.{aggregateOf, stageOf, planOf}
+use Rattle.grammar.specs.Reading.{Got, got}
+use Rattle.tokens.specs.declared.faults.Fault.{Fault}
+use Rattle.tokens.specs.Says.{Read, Refuses}
+use Rattle.text.specs.declared.stages.Named.{Named}
+use Rattle.text.specs.declared.stages.Staged.{Staged}
+
+abbrev pub SaysAggregate : Got spec.Sum → List ℕ → Result Named Fault → Type 0
+SaysAggregate g b (Ok x) = Read g b (aggregateOf (x .aggregate)) (x .end)
+SaysAggregate g b (Err e) = Refuses g b e
+
+abbrev pub SaysStage : Got spec.Stage → List ℕ → Result Staged Fault → Type 0
+SaysStage g b (Ok x) = Read g b (stageOf (x .stage)) (x .end)
+SaysStage g b (Err e) = Refuses g b e
+
+-- stages go to the end of the text
+abbrev pub SaysStages : Got (List spec.Stage) → List ℕ → Result (Vec Stage Global) Fault → Type 0
+SaysStages g b (Ok v) = g ≡ got (map stageOf (vec-items v)) []
+SaysStages g b (Err e) = Refuses g b e
+
+abbrev pub SaysPlan : Got spec.Plan → List ℕ → Result Plan Fault → Type 0
+SaysPlan g b (Ok p) = g ≡ got (planOf p) []
+SaysPlan g b (Err e) = Refuses g b e
