@@ -60,18 +60,18 @@ pub parts-some : (e : spec.Expr) → 0 < parts e
 unfolding parts
 parts-some e =
     elim e as (λ e. 0 < parts e) [
-      spec.Num n ↦ omega arith
-    | spec.Time ↦ omega arith
-    | spec.Key ↦ omega arith
-    | spec.Value ↦ omega arith
-    | spec.Plus a b ↦ omega arith
-    | spec.Minus a b ↦ omega arith
-    | spec.Times a b ↦ omega arith
-    | spec.Quotient a b ↦ omega arith
-    | spec.Rest a b ↦ omega arith
-    | spec.Less a b ↦ omega arith
-    | spec.Same a b ↦ omega arith
-    | spec.Not a ↦ omega arith
+      | spec.Num n ↦ omega arith
+      | spec.Time ↦ omega arith
+      | spec.Key ↦ omega arith
+      | spec.Value ↦ omega arith
+      | spec.Plus a b ↦ omega arith
+      | spec.Minus a b ↦ omega arith
+      | spec.Times a b ↦ omega arith
+      | spec.Quotient a b ↦ omega arith
+      | spec.Rest a b ↦ omega arith
+      | spec.Less a b ↦ omega arith
+      | spec.Same a b ↦ omega arith
+      | spec.Not a ↦ omega arith
     ]
 
 -- the parts of what was joined
@@ -97,17 +97,17 @@ module _ (l : Level) (sub : Reader spec.Expr) (turns : ℕ) (a : spec.Expr) (bs 
   unfolding more
   more-none h o = go turns h
     where
-    go : (t : ℕ) → t ≢ 0 → more l sub t a bs ≡ got a bs
-    go zero h = absurd (h refl)
-    go (suc t) h = rw (← e, o)
+      go : (t : ℕ) → t ≢ 0 → more l sub t a bs ≡ got a bs
+      go zero h = absurd (h refl)
+      go (suc t) h = rw (← e, o)
 
   pub more-turn : (o : Operator) → turns ≢ 0 → operator l s ≡ Some o → more l sub turns a bs ≡ after (sub (next s)) (λ b rest. after (join o s a b rest) (λ c end. more l sub (turns - 1) c end))
   unfolding more
   more-turn o h is = go turns h
     where
-    go : (t : ℕ) → t ≢ 0 → more l sub t a bs ≡ after (sub (next s)) (λ b rest. after (join o s a b rest) (λ c end. more l sub (t - 1) c end))
-    go zero h = absurd (h refl)
-    go (suc t) h = let n : suc t - 1 ≡ t = omega arith in rw (← e, is, n)
+      go : (t : ℕ) → t ≢ 0 → more l sub t a bs ≡ after (sub (next s)) (λ b rest. after (join o s a b rest) (λ c end. more l sub (t - 1) c end))
+      go zero h = absurd (h refl)
+      go (suc t) h = let n : suc t - 1 ≡ t = omega arith in rw (← e, is, n)
 
 -- ---- a chain, once its first operand was read
 pub chained-bad : (l : Level) (inner : Reader spec.Expr) (bs : List ℕ) {why : Why} {rest : List ℕ} → operand l inner bs ≡ bad why rest → chained l inner bs ≡ bad why rest
@@ -137,25 +137,25 @@ module _ (inner : Reader spec.Expr) (nots : ℕ) (bs s n : List ℕ) (e : s ≡ 
   unfolding factor
   factor-not z h = go nots z
     where
-    go : (t : ℕ) → t ≢ 0 → factor inner t bs ≡ after (factor inner (t - 1) n) (λ a rest. negate s a rest)
-    go zero z = absurd (z refl)
-    go (suc t) z = let less : suc t - 1 ≡ t = omega arith in rw (← e, h, less, f)
+      go : (t : ℕ) → t ≢ 0 → factor inner t bs ≡ after (factor inner (t - 1) n) (λ a rest. negate s a rest)
+      go zero z = absurd (z refl)
+      go (suc t) z = let less : suc t - 1 ≡ t = omega arith in rw (← e, h, less, f)
 
   pub factor-bracket : is 33 s ≡ false → is 40 s ≡ true → factor inner nots bs ≡ inner s
   unfolding factor
   factor-bracket h k = go nots
     where
-    go : (t : ℕ) → factor inner t bs ≡ inner s
-    go zero = rw (← e, h, k)
-    go (suc t) = rw (← e, h, k)
+      go : (t : ℕ) → factor inner t bs ≡ inner s
+      go zero = rw (← e, h, k)
+      go (suc t) = rw (← e, h, k)
 
   pub factor-leaf : is 33 s ≡ false → is 40 s ≡ false → factor inner nots bs ≡ leaf s
   unfolding factor
   factor-leaf h k = go nots
     where
-    go : (t : ℕ) → factor inner t bs ≡ leaf s
-    go zero = rw (← e, h, k)
-    go (suc t) = rw (← e, h, k)
+      go : (t : ℕ) → factor inner t bs ≡ leaf s
+      go zero = rw (← e, h, k)
+      go (suc t) = rw (← e, h, k)
 
 pub negate-ok : (l : Part) (place rest : List ℕ) → l .parts ≡ parts (exprOf (l .expr)) → 1 + l .parts ≤ 64 → negate place (exprOf (l .expr)) rest ≡ got (spec.Not (exprOf (l .expr))) rest
 unfolding negate
@@ -223,7 +223,7 @@ negates-says at l g b (Ok p) e h k c j =
       is = e ∙ negate-ok l (drop at b) (drop (l .end) b) c (j .few) ∙ ap (λ x. got x (drop (l .end) b)) (sym (j .is)) ∙ ap (λ n. got (exprOf (p .expr)) (drop n b)) (sym (j .ends));
       inside = omega (arith, j .ends);
       counted = j .counts ∙ ap (λ n. 1 + n) c ∙ ap parts (sym (j .is));
-      few = omega (arith, j .counts, j .few)
+      few = omega (arith, j .counts, j .few);
     }
 negates-says at l g b (Err f) e h k c j = negates-refused at l g b f h (λ m. e ∙ negate-bad l (drop at b) (drop (l .end) b) c m) j
 
@@ -233,8 +233,8 @@ module _ (l : Level) (inner : Reader spec.Expr) (bs b : List ℕ) (left right : 
   going-on =
       let left-over : going .turns ≢ 0 = omega (arith, going .enough, going .few) in
       going .is
-        ∙ more-turn l (operand l inner) (going .turns) (exprOf (left .expr)) (drop (left .end) b) (drop place b) skipped o left-over found
-        ∙ ap (λ n. after (operand l inner n) (λ y rest. after (join o (drop place b) (exprOf (left .expr)) y rest) (λ c end. more l (operand l inner) (going .turns - 1) c end))) (drop-drop 1 place b)
+      ∙ more-turn l (operand l inner) (going .turns) (exprOf (left .expr)) (drop (left .end) b) (drop place b) skipped o left-over found
+      ∙ ap (λ n. after (operand l inner n) (λ y rest. after (join o (drop place b) (exprOf (left .expr)) y rest) (λ c end. more l (operand l inner) (going .turns - 1) c end))) (drop-drop 1 place b)
 
   pub turn-bad : {why : Why} {rest : List ℕ} → operand l inner (drop (place + 1) b) ≡ bad why rest → chained l inner bs ≡ bad why rest
   turn-bad e = going-on ∙ after-bad _ _ e
@@ -251,7 +251,7 @@ module _ (l : Level) (inner : Reader spec.Expr) (bs b : List ℕ) (left right : 
           is = going-on ∙ after-got _ _ (read .is) ∙ after-got _ _ (joins-ok o place left right p (drop place b) (drop (right .end) b) (going .counted) (read .counted) j) ∙ ap (λ n. more l (operand l inner) (going .turns - 1) (exprOf (p .expr)) (drop n b)) (sym (j .ends));
           inside = omega (arith, j .ends, read .inside);
           counted = joins-counted o place left right p (going .counted) (read .counted) j;
-          few = omega (arith, j .counts, j .few)
+          few = omega (arith, j .counts, j .few);
         }
 
 -- a comparison, likewise

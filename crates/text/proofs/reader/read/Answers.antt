@@ -26,8 +26,8 @@ returns-in-Break-late c =
     let n = drop (c .skip-place .result + 4) b in
     rw (p .1, p .2)
     (hand-on (limited Lateness 0 n) (reading b) b (c .in-Break-late .field-0 .0)
-      (λ why rest is. late-bad b (drop (c .skip-place .result) b) (c .if-text-gt-LONGEST .left) (c .skip-place .ensures .skipped) n (drop-drop 4 (c .skip-place .result) b) (sym (c .if-not-is-word .ensures tt .value)) is)
-      (c .in-Break-late .ensures tt))
+    (λ why rest is. late-bad b (drop (c .skip-place .result) b) (c .if-text-gt-LONGEST .left) (c .skip-place .ensures .skipped) n (drop-drop 4 (c .skip-place .result) b) (sym (c .if-not-is-word .ensures tt .value)) is)
+    (c .in-Break-late .ensures tt))
 
 pub returns-in-Break-all : need.returns-in-Break-all
 returns-in-Break-all c =
@@ -36,8 +36,8 @@ returns-in-Break-all c =
     let n = drop (c .skip-place .result + 4) b in
     rw (p .1, p .2)
     (hand-on (stages 8 [] (drop (c .in-Continue-late .late .end) b)) (reading b) b (c .in-Break-all .field-0 .0)
-      (λ why rest is. stages-bad b (drop (c .skip-place .result) b) (c .if-text-gt-LONGEST .left) (c .skip-place .ensures .skipped) n (drop-drop 4 (c .skip-place .result) b) (sym (c .if-not-is-word .ensures tt .value)) (c .in-Continue-late .ensures tt .is) is)
-      (c .in-Break-all .ensures tt))
+    (λ why rest is. stages-bad b (drop (c .skip-place .result) b) (c .if-text-gt-LONGEST .left) (c .skip-place .ensures .skipped) n (drop-drop 4 (c .skip-place .result) b) (sym (c .if-not-is-word .ensures tt .value)) (c .in-Continue-late .ensures tt .is) is)
+    (c .in-Break-all .ensures tt))
 
 pub returns : need.returns
 returns c =
