@@ -49,6 +49,25 @@ const PIECES: [&str; 40] = [
     "+1+1+1+1+1+1+1+1", "x", "\u{e9}",
 ];
 
+/// A good plan in which digits, signs and white space are replaced by others of their kind: mostly a plan again.
+fn varied(random: &mut Random) -> Vec<u8> {
+    let mut text = Vec::new();
+    for c in random.one(&GOOD).bytes() {
+        let signs: &[u8] = match c {
+            b'0'..=b'9' => b"0123456789",
+            b'+' | b'-' | b'*' | b'/' | b'%' => b"+-*/%",
+            b'<' | b'=' => b"<=",
+            b' ' => b" \n\t",
+            _ => &[],
+        };
+        text.push(if signs.is_empty() || random.below(3) > 0 { c } else { *random.one(signs) });
+        if !c.is_ascii_alphanumeric() && random.below(20) == 0 {
+            text.extend_from_slice(b" \r\n");
+        }
+    }
+    text
+}
+
 /// A good plan with one to four changes: pieces put in, bytes taken out, replaced or doubled, the end cut off.
 fn changed(random: &mut Random) -> Vec<u8> {
     let mut text = random.one(&GOOD).as_bytes().to_vec();
@@ -198,10 +217,13 @@ fn main() {
     let mut plans = 0;
     for seed in 1..=3000u64 {
         let mut random = Random(seed.wrapping_mul(0x9e37_79b9_7f4a_7c15));
-        let text = changed(&mut random);
+        let text = if seed % 3 == 0 { varied(&mut random) } else { changed(&mut random) };
         let outcome = ours(&text);
         plans += usize::from(matches!(outcome, Outcome::Printed(_)));
         count(&format!("seed {seed}, {:?}", String::from_utf8_lossy(&text)), agrees(program, &text, &outcome));
+    }
+    if plans < 500 {
+        count("plans", Err(format!("only {plans} of the changed texts are plans")));
     }
     println!("{entries} texts of the table, 3000 changed ones, of which {plans} are plans");
     println!("{passed} passed, {failed} failed");
