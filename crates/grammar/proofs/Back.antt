@@ -70,6 +70,10 @@ unfolding operand chain
 operand-blank level.Product inner bs = factor-blank inner 64 bs
 operand-blank level.Sum inner bs = ap (λ g. after g (λ a rest. more level.Product (factor inner 64) 64 a rest)) (factor-blank inner 64 bs)
 
+chained-blank : (l : Level) (inner : Reader Expr) (bs : List ℕ) → chained l inner (32 ∷ bs) ≡ chained l inner bs
+unfolding chained chain
+chained-blank l inner bs = ap (λ g. after g (λ a rest. more l (operand l inner) 64 a rest)) (operand-blank l inner bs)
+
 -- ---- chains
 module _ (l : Level) (inner : Reader Expr) where
   chain-first : (t : List ℕ) (e : Expr) → OperandReads l inner t e → ChainReads l inner t e
@@ -202,3 +206,148 @@ number-reads inner n h m rest few ends =
   go : (k : ℕ) → skip (decimal n ++ rest) ≡ decimal n ++ rest → isDigit (decimal n ++ rest) ≡ true → digits (decimal n ++ rest) 0 (decimal n ++ rest) ≡ got n rest → is 33 (decimal n ++ rest) ≡ false → is 40 (decimal n ++ rest) ≡ false → factor inner k (decimal n ++ rest) ≡ got (Num n) rest
   go zero s d r x y = rw (s, x, y, d, r)
   go (suc k) s d r x y = rw (s, x, y, d, r)
+
+-- ---- an expression at each level at which it may stand without brackets
+record Back (d : ℕ) (e : Expr) : Type 0 where
+  factors : bond e ≡ 4 → FactorReads (bracket d) (shown e) e
+  products : 3 ≤ bond e → ChainReads level.Product (bracket d) (shown e) e
+  sums : 2 ≤ bond e → ChainReads level.Sum (bracket d) (shown e) e
+  exprs : (rest : List ℕ) → Closed rest → expression d (shown e ++ rest) ≡ got e rest
+
+abbrev Exprs : ℕ → Expr → Type 0
+Exprs d e = (rest : List ℕ) → Closed rest → expression d (shown e ++ rest) ≡ got e rest
+
+sums-expr : (d : ℕ) (e : Expr) → parts e ≤ 64 → ChainReads level.Sum (bracket d) (shown e) e → Exprs d e
+sums-expr d e few h rest c = expression-one d (shown e ++ rest) (skip rest) [] (chain-whole level.Sum (bracket d) (shown e) e rest few h (c .ends) (c .product) (c .sum)) refl (c .compared)
+
+from-sum : (d : ℕ) (e : Expr) → parts e ≤ 64 → bond e ≡ 2 → ChainReads level.Sum (bracket d) (shown e) e → Back d e
+from-sum d e few is h = record { factors = λ k. absurd (omega arith); products = λ k. absurd (omega arith); sums = λ _. h; exprs = sums-expr d e few h }
+
+from-product : (d : ℕ) (e : Expr) → parts e ≤ 64 → bond e ≡ 3 → ChainReads level.Product (bracket d) (shown e) e → Back d e
+from-product d e few is h =
+    let s = chain-first level.Sum (bracket d) (shown e) e (products-sum (bracket d) (shown e) e few h) in
+    record { factors = λ k. absurd (omega arith); products = λ _. h; sums = λ _. s; exprs = sums-expr d e few s }
+
+from-compare : (d : ℕ) (e : Expr) → bond e ≡ 1 → Exprs d e → Back d e
+from-compare d e is h = record { factors = λ k. absurd (omega arith); products = λ k. absurd (omega arith); sums = λ k. absurd (omega arith); exprs = h }
+
+from-factor : (d : ℕ) (e : Expr) → parts e ≤ 64 → FactorReads (bracket d) (shown e) e → Back d e
+from-factor d e few h =
+    let p = chain-first level.Product (bracket d) (shown e) e (factors-product (bracket d) (shown e) e few h) in
+    let s = chain-first level.Sum (bracket d) (shown e) e (products-sum (bracket d) (shown e) e few p) in
+    record { factors = λ _. h; products = λ _. p; sums = λ _. s; exprs = sums-expr d e few s }
+
+bond-most : (x : Expr) → 4 ≤ bond x → bond x ≡ 4
+unfolding bond
+bond-most (Num n) h = refl
+bond-most Time h = refl
+bond-most Key h = refl
+bond-most Value h = refl
+bond-most (Plus a b) h = absurd (omega arith)
+bond-most (Minus a b) h = absurd (omega arith)
+bond-most (Times a b) h = absurd (omega arith)
+bond-most (Quotient a b) h = absurd (omega arith)
+bond-most (Rest a b) h = absurd (omega arith)
+bond-most (Less a b) h = absurd (omega arith)
+bond-most (Same a b) h = absurd (omega arith)
+bond-most (Not a) h = refl
+
+-- ---- the same where another may stand only in brackets
+module _ (d : ℕ) (e : Expr) (some : d ≢ 0) (few : parts e ≤ 64) (here : Back d e) (inside : Exprs (d - 1) e) where
+  bracketed : FactorReads (bracket d) (40 ∷ (shown e ++ (41 ∷ []))) e
+  bracketed = bracketed-reads d (shown e) e some inside
+
+  within-factor : FactorReads (bracket d) (within 4 (bond e) (shown e)) e
+  within-factor = cond-both (ltb (bond e) 4) _ _ (λ t. FactorReads (bracket d) t e) (λ _. bracketed) (λ h. here .factors (bond-most e (ltb-false _ _ h)))
+
+  within-product : ChainReads level.Product (bracket d) (within 3 (bond e) (shown e)) e
+  within-product =
+      cond-both (ltb (bond e) 3) _ _ (λ t. ChainReads level.Product (bracket d) t e)
+      (λ _. chain-first level.Product (bracket d) (40 ∷ (shown e ++ (41 ∷ []))) e (factors-product (bracket d) (40 ∷ (shown e ++ (41 ∷ []))) e few bracketed))
+      (λ h. here .products (ltb-false _ _ h))
+
+  within-sum : ChainReads level.Sum (bracket d) (within 2 (bond e) (shown e)) e
+  within-sum =
+      cond-both (ltb (bond e) 2) _ _ (λ t. ChainReads level.Sum (bracket d) t e)
+      (λ _. chain-first level.Sum (bracket d) (40 ∷ (shown e ++ (41 ∷ []))) e (products-sum (bracket d) (40 ∷ (shown e ++ (41 ∷ []))) e few (chain-first level.Product (bracket d) (40 ∷ (shown e ++ (41 ∷ []))) e (factors-product (bracket d) (40 ∷ (shown e ++ (41 ∷ []))) e few bracketed))))
+      (λ h. here .sums (ltb-false _ _ h))
+
+-- ---- pairs
+-- a side of a pair: how it stands there, at this depth and at one less
+record Side (d : ℕ) (e : Expr) : Type 0 where
+  few : parts e ≤ 64
+  here : Back d e
+  inside : Exprs (d - 1) e
+
+module _ (d : ℕ) (a b : Expr) (some : d ≢ 0) (l : Side d a) (r : Side d b) where
+  sum-reads : (o : Operator) (sign : ℕ) → ((bs : List ℕ) → operator level.Sum (sign ∷ bs) ≡ Some o) → ((bs : List ℕ) → Stops level.Sum (32 ∷ sign ∷ bs)) → blank sign ≡ false → parts (joined o a b) ≤ 64 → ChainReads level.Sum (bracket d) (pair sign (within 2 (bond a) (shown a)) (within 3 (bond b) (shown b))) (joined o a b)
+  sum-reads o sign found stops solid few =
+      chain-next level.Sum (bracket d) (within 2 (bond a) (shown a)) (within 3 (bond b) (shown b)) a b o sign found stops solid few (within-sum d a some (l .few) (l .here) (l .inside)) (products-sum (bracket d) (within 3 (bond b) (shown b)) b (r .few) (within-product d b some (r .few) (r .here) (r .inside)))
+
+  product-reads : (o : Operator) (sign : ℕ) → ((bs : List ℕ) → operator level.Product (sign ∷ bs) ≡ Some o) → blank sign ≡ false → parts (joined o a b) ≤ 64 → ChainReads level.Product (bracket d) (pair sign (within 3 (bond a) (shown a)) (within 4 (bond b) (shown b))) (joined o a b)
+  product-reads o sign found solid few =
+      chain-next level.Product (bracket d) (within 3 (bond a) (shown a)) (within 4 (bond b) (shown b)) a b o sign found (λ _. tt) solid few (within-product d a some (l .few) (l .here) (l .inside)) (factors-product (bracket d) (within 4 (bond b) (shown b)) b (r .few) (within-factor d b some (r .few) (r .here) (r .inside)))
+
+  compare-reads : (o : Operator) (sign : ℕ) → ((bs : List ℕ) → comparison (sign ∷ bs) ≡ Some o) → ((bs : List ℕ) → operator level.Sum (sign ∷ bs) ≡ None) → ((bs : List ℕ) → operator level.Product (sign ∷ bs) ≡ None) → blank sign ≡ false → parts (joined o a b) ≤ 64 → (rest : List ℕ) → Closed rest → expression d (pair sign (within 2 (bond a) (shown a)) (within 2 (bond b) (shown b)) ++ rest) ≡ got (joined o a b) rest
+  unfolding skip isLetter isDigit join single
+  compare-reads o sign found no-sum no-product solid few rest c =
+      let ta = within 2 (bond a) (shown a) in
+      let tb = within 2 (bond b) (shown b) in
+      let behind = 32 ∷ sign ∷ 32 ∷ (tb ++ rest) in
+      let skipped : sign ∷ 32 ∷ (tb ++ rest) ≡ skip behind = rw solid in
+      let left = chain-whole level.Sum (bracket d) ta a behind (l .few) (within-sum d a some (l .few) (l .here) (l .inside)) (record { letter = refl; digit = refl }) (rw solid (no-product _)) (rw solid (no-sum _)) in
+      let right = chain-whole level.Sum (bracket d) tb b rest (r .few) (within-sum d b some (r .few) (r .here) (r .inside)) (c .ends) (c .product) (c .sum) in
+      let fits : leb (1 + (parts a + parts b)) 64 ≡ true = le-leb _ _ (omega (arith, joined-parts o a b)) in
+      let whole : join o (sign ∷ 32 ∷ (tb ++ rest)) a b rest ≡ got (joined o a b) rest = rw fits in
+      ap (expression d) (append-assoc ta (32 ∷ sign ∷ 32 ∷ tb) rest)
+        ∙ expression-two d (ta ++ behind) (sign ∷ 32 ∷ (tb ++ rest)) (32 ∷ (tb ++ rest)) left skipped refl (found _)
+        ∙ after-got _ _ (chained-blank level.Sum (bracket d) (tb ++ rest) ∙ right)
+        ∙ after-got (join o (sign ∷ 32 ∷ (tb ++ rest)) a b rest) single whole
+        ∙ rw (c .compared)
+
+-- ---- WHAT IS PRINTED OF AN EXPRESSION IS READ AS IT, where its parts are few and its numbers fit
+back : (e : Expr) (d : ℕ) → parts e ≤ d → parts e ≤ 64 → exprOk e ≡ true → Back d e
+unfolding parts exprOk bond shown joined operator comparison is skip
+back (Num n) d h few ok = from-factor d (Num n) few (number-reads (bracket d) n (ltb-true n top ok))
+back Time d h few ok = from-factor d Time few (time-reads (bracket d))
+back Key d h few ok = from-factor d Key few (key-reads (bracket d))
+back Value d h few ok = from-factor d Value few (value-reads (bracket d))
+back (Plus a b) d h few ok =
+    let oks = and-parts (exprOk a) (exprOk b) ok in
+    let l : Side d a = record { few = omega arith; here = back a d (omega arith) (omega arith) (oks .0); inside = back a (d - 1) (omega arith) (omega arith) (oks .0) .exprs } in
+    let r : Side d b = record { few = omega arith; here = back b d (omega arith) (omega arith) (oks .1); inside = back b (d - 1) (omega arith) (omega arith) (oks .1) .exprs } in
+    from-sum d (Plus a b) few refl (sum-reads d a b (omega arith) l r op.Plus 43 (λ _. refl) (λ _. refl) refl few)
+back (Minus a b) d h few ok =
+    let oks = and-parts (exprOk a) (exprOk b) ok in
+    let l : Side d a = record { few = omega arith; here = back a d (omega arith) (omega arith) (oks .0); inside = back a (d - 1) (omega arith) (omega arith) (oks .0) .exprs } in
+    let r : Side d b = record { few = omega arith; here = back b d (omega arith) (omega arith) (oks .1); inside = back b (d - 1) (omega arith) (omega arith) (oks .1) .exprs } in
+    from-sum d (Minus a b) few refl (sum-reads d a b (omega arith) l r op.Minus 45 (λ _. refl) (λ _. refl) refl few)
+back (Times a b) d h few ok =
+    let oks = and-parts (exprOk a) (exprOk b) ok in
+    let l : Side d a = record { few = omega arith; here = back a d (omega arith) (omega arith) (oks .0); inside = back a (d - 1) (omega arith) (omega arith) (oks .0) .exprs } in
+    let r : Side d b = record { few = omega arith; here = back b d (omega arith) (omega arith) (oks .1); inside = back b (d - 1) (omega arith) (omega arith) (oks .1) .exprs } in
+    from-product d (Times a b) few refl (product-reads d a b (omega arith) l r op.Times 42 (λ _. refl) refl few)
+back (Quotient a b) d h few ok =
+    let oks = and-parts (exprOk a) (exprOk b) ok in
+    let l : Side d a = record { few = omega arith; here = back a d (omega arith) (omega arith) (oks .0); inside = back a (d - 1) (omega arith) (omega arith) (oks .0) .exprs } in
+    let r : Side d b = record { few = omega arith; here = back b d (omega arith) (omega arith) (oks .1); inside = back b (d - 1) (omega arith) (omega arith) (oks .1) .exprs } in
+    from-product d (Quotient a b) few refl (product-reads d a b (omega arith) l r op.Quotient 47 (λ _. refl) refl few)
+back (Rest a b) d h few ok =
+    let oks = and-parts (exprOk a) (exprOk b) ok in
+    let l : Side d a = record { few = omega arith; here = back a d (omega arith) (omega arith) (oks .0); inside = back a (d - 1) (omega arith) (omega arith) (oks .0) .exprs } in
+    let r : Side d b = record { few = omega arith; here = back b d (omega arith) (omega arith) (oks .1); inside = back b (d - 1) (omega arith) (omega arith) (oks .1) .exprs } in
+    from-product d (Rest a b) few refl (product-reads d a b (omega arith) l r op.Rest 37 (λ _. refl) refl few)
+back (Less a b) d h few ok =
+    let oks = and-parts (exprOk a) (exprOk b) ok in
+    let l : Side d a = record { few = omega arith; here = back a d (omega arith) (omega arith) (oks .0); inside = back a (d - 1) (omega arith) (omega arith) (oks .0) .exprs } in
+    let r : Side d b = record { few = omega arith; here = back b d (omega arith) (omega arith) (oks .1); inside = back b (d - 1) (omega arith) (omega arith) (oks .1) .exprs } in
+    from-compare d (Less a b) refl (compare-reads d a b (omega arith) l r op.Less 60 (λ _. refl) (λ _. refl) (λ _. refl) refl few)
+back (Same a b) d h few ok =
+    let oks = and-parts (exprOk a) (exprOk b) ok in
+    let l : Side d a = record { few = omega arith; here = back a d (omega arith) (omega arith) (oks .0); inside = back a (d - 1) (omega arith) (omega arith) (oks .0) .exprs } in
+    let r : Side d b = record { few = omega arith; here = back b d (omega arith) (omega arith) (oks .1); inside = back b (d - 1) (omega arith) (omega arith) (oks .1) .exprs } in
+    from-compare d (Same a b) refl (compare-reads d a b (omega arith) l r op.Same 61 (λ _. refl) (λ _. refl) (λ _. refl) refl few)
+back (Not a) d h few ok = from-factor d (Not a) few (not-reads (bracket d) (within 4 (bond a) (shown a)) a few (within-factor d a (omega arith) (omega arith) (back a d (omega arith) (omega arith) ok) (back a (d - 1) (omega arith) (omega arith) ok .exprs)))
+
+pub expression-back : (e : Expr) (rest : List ℕ) → parts e ≤ 64 → exprOk e ≡ true → Closed rest → expression 64 (shown e ++ rest) ≡ got e rest
+expression-back e rest few ok c = back e 64 few few ok .exprs rest c
