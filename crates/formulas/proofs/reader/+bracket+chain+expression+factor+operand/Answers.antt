@@ -8,7 +8,8 @@ use Rattle.plans.specs.Model.{exprOf}
 use Rattle.grammar.specs.declared.operators.Level.the-variants as level
 use Rattle.grammar.specs.Reading.{after, negate, chained, operand, factor, leaf, bracket, expression, closed}
 use Rattle.tokens.proofs.Hands.{hand-on}
-use Rattle.formulas.proofs.Chains.{parts-some, after-got, after-bad, joins-refused, joins-counted, more-none, chained-bad, chained-got, operand-sum, operand-product, factor-many, factor-not, factor-bracket, factor-leaf, bracket-deep, bracket-in, closed-ok, closed-bad, single-ok, single-bad, expression-bad, expression-one, says-as, negates-says, turn-bad, turn-many, turn-goes, two-bad, two-many, two-joined}
+use Rattle.grammar.proofs.Readers.{parts-some, after-got, after-bad, more-none, chained-bad, chained-got, operand-sum, operand-product, factor-many, factor-not, factor-bracket, factor-leaf, bracket-deep, bracket-in, closed-ok, closed-bad, single-ok, single-bad, expression-bad, expression-one}
+use Rattle.formulas.proofs.Chains.{joins-refused, joins-counted, says-as, negates-says, turn-bad, turn-many, turn-goes, two-bad, two-many, two-joined}
 use Rattle.formulas.proofs.reader.+bracket+chain+expression+factor+operand.Needs as need
 
 pub bracket-returns-then-deep-eq0 : need.bracket-returns-then-deep-eq0

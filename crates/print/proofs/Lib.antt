@@ -1,0 +1,2 @@
+mod Defaults
+mod Writes
