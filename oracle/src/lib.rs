@@ -1,1 +1,2 @@
 //! The plain Rust counterpart of the proved programs, written from docs/ and not from their code.
+pub mod codec;
