@@ -1,7 +1,7 @@
 -- Numbers and their bytes, high byte first. Assumes nothing.
-use mathlib.Core.Path.{_≡_, refl, sym, ap, _∙_}
+use mathlib.Core.Path.{_≡_, refl, sym, ap}
 use mathlib.Core.List.{List, [], _∷_, _++_}
-use Prim.Native.Nat.{ℕ, _+_, _-_, _*_, _/_, _%_, _<_, _≤_, _^_}
+use Prim.Native.Nat.{ℕ, _+_, _-_, _*_, _/_, _%_, _<_, _≤_}
 use native.Mathlib.Omega.{arith}
 use lib.ListN.{length, getD, take, drop}
 use lib.Seq.{take-all}
@@ -74,9 +74,6 @@ four-value n h = omega (arith, eight-value n (omega arith))
 
 pub two-same : (m n : ℕ) (xs ys : List ℕ) → m < 65536 → n < 65536 → two m ++ xs ≡ two n ++ ys → (m ≡ n) × (xs ≡ ys)
 two-same m n xs ys hm hn e = (omega (arith, two-value m hm, two-value n hn, ap (λ l. getD l 0 0) e, ap (λ l. getD l 1 0) e), ap (drop 2) e)
-
-pub four-same : (m n : ℕ) (xs ys : List ℕ) → m < 4294967296 → n < 4294967296 → four m ++ xs ≡ four n ++ ys → (m ≡ n) × (xs ≡ ys)
-four-same m n xs ys hm hn e = (omega (arith, four-value m hm, four-value n hn, ap (λ l. getD l 0 0) e, ap (λ l. getD l 1 0) e, ap (λ l. getD l 2 0) e, ap (λ l. getD l 3 0) e), ap (drop 4) e)
 
 pub eight-same : (m n : ℕ) (xs ys : List ℕ) → m < 18446744073709551616 → n < 18446744073709551616 → eight m ++ xs ≡ eight n ++ ys → (m ≡ n) × (xs ≡ ys)
 eight-same m n xs ys hm hn e = (

@@ -1,15 +1,14 @@
 -- No two calls have the same bytes, and bytes of another length than a kind has are no call. Assumes nothing.
 use mathlib.Core.Path.{_≡_, refl, sym, ap, subst, _∙_}
-use mathlib.Core.Bool.{Bool, true, false}
-use mathlib.Core.List.{List, [], _∷_, _++_}
-use Prim.Native.Nat.{ℕ, _<_}
+use mathlib.Core.Bool.{true, false}
+use mathlib.Core.List.{List, [], _∷_}
+use Prim.Native.Nat.{ℕ}
 use native.Mathlib.Omega.{arith}
 use lib.ListN.{length, getD, drop}
 use Rattle.std.specs.declared.result.Result.{Result}
 use Rattle.std.specs.declared.result.Result.the-variants.{Ok, Err}
 use Rattle.streams.specs.Calls.{core}
 use Rattle.bytes.proofs.Bytes.{two-same, eight-same}
-use Rattle.plans.specs.declared.entries.Entry.{Entry}
 use Rattle.plans.specs.declared.entries.Entry.the-variants.{Happened, Still}
 use Rattle.calls.specs.declared.kinds.Refusal.{Refusal}
 use Rattle.calls.specs.declared.kinds.Refusal.the-variants.{Invalid, NoLog, Dropped, NotOut, Busy, NotBuilt}

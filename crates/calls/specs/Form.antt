@@ -1,8 +1,8 @@
 -- The bytes of a call, what each value stands for in the meaning, and what may be read from bytes.
 -- Assumes nothing.
 use mathlib.Core.Path.{_≡_}
-use mathlib.Core.Bool.{Bool, true, false}
-use mathlib.Core.List.{List, [], _∷_, _++_}
+use mathlib.Core.Bool.{true, false}
+use mathlib.Core.List.{List, _∷_, _++_}
 use Prim.Native.Nat.{ℕ, _<_, _≤_, _^_}
 use lib.ListN.{length, take, drop}
 use Rattle.std.specs.declared.option.Option.{Option}
@@ -12,7 +12,6 @@ use Rattle.std.specs.declared.result.Result.the-variants.{Ok, Err}
 use Rattle.streams.specs.Calls as spec
 use Rattle.bytes.specs.Form.{two, eight}
 use Rattle.plans.specs.Model.{entryOf}
-use Rattle.plans.specs.declared.entries.Entry.{Entry}
 use Rattle.plans.specs.declared.entries.Entry.the-variants.{Happened, Still}
 use Rattle.calls.specs.declared.kinds.Refusal.{Refusal}
 use Rattle.calls.specs.declared.kinds.Refusal.the-variants.{Invalid, NoLog, Dropped, NotOut, Busy, NotBuilt}

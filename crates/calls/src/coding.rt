@@ -79,10 +79,10 @@ fn out_from(b: &[u8]) -> Result<Call, Refusal>
     let Some((from, counts)) = eight_from(b) else {
         return Err(Refusal::Invalid);
     };
-    let Some((most, more)) = two_from(counts) else {
+    let Some((most, behind)) = two_from(counts) else {
         return Err(Refusal::Invalid);
     };
-    let [] = more else {
+    let [] = behind else {
         return Err(Refusal::Invalid);
     };
     Ok(Call::Out {

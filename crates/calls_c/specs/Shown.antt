@@ -19,6 +19,8 @@ use Rattle.calls.specs.Refuse.{Refuses}
 use Rattle.replies.specs.declared.kinds.Reply.{Reply}
 use Rattle.replies.specs.declared.kinds.Reply.the-variants as reply
 use Rattle.replies.specs.Listing.{eventsIn}
+use Rattle.replies.specs.Form.{replyOf, Encodes as EncodesReply}
+use Rattle.streams.specs.Calls as spec
 use Rattle.frames.specs.declared.kinds.Traffic.{Traffic}
 use Rattle.frames.specs.declared.kinds.Traffic.the-variants.{Calls, Replies}
 use Rattle.frames.specs.declared.kinds.Fault.the-variants.{TooLong, TooShort}
@@ -59,6 +61,26 @@ shownReply (Some (reply.Refused r)) = record { kind = 0; refused = numberOf r; e
 shownReply (Some reply.Yes) = record { kind = 1; refused = 0; events = 0 }
 shownReply (Some (reply.Out es)) = record { kind = 2; refused = 0; events = length (eventsIn (es .bytes .now)) }
 shownReply (Some reply.Full) = record { kind = 3; refused = 0; events = 0 }
+
+abbrev pub refusedBy : Option Refusal → Option spec.Reply
+refusedBy None = None
+refusedBy (Some r) = Some (spec.No (numberOf r))
+
+-- the answer of a kind, with the refusal that goes by a number, or the events in bytes
+abbrev pub answerIn : (kind : ℕ) → Option Refusal → List ℕ → Option spec.Reply
+answerIn k q es = cond (eqb k 0) (refusedBy q) (cond (eqb k 1) (Some spec.Yes) (cond (eqb k 2) (Some (spec.Outs (eventsIn es))) (cond (eqb k 3) (Some spec.Full) None)))
+
+abbrev pub answerOf : Option Reply → Option spec.Reply
+answerOf None = None
+answerOf (Some r) = Some (replyOf r)
+
+abbrev pub Goes : ℕ → Option Refusal → Type 0
+Goes n None = (r : Refusal) → numberOf r ≡ n → ⊥
+Goes n (Some r) = numberOf r ≡ n
+
+abbrev pub SentReply : Option spec.Reply → (before after : List ℕ) → Option ℕ → Type 0
+SentReply None before after x = (x ≡ None) × (after ≡ before)
+SentReply (Some a) before after x = EncodesReply a before after x
 
 abbrev pub shownEvent : Option Event → EventFields
 shownEvent None = record { found = 0; time = 0; key = 0; value = 0 }

@@ -36,7 +36,7 @@ ghost use Rattle.replies.specs.declared.kinds.Reply.{Reply as Answer};
 ghost use Rattle.replies.specs.Form.{Reads as ReadsReply};
 ghost use Rattle.replies.specs.Listing.{eventsIn, Got};
 ghost use Rattle.frames.specs.Lines.{seen, Written};
-ghost use Rattle.calls_c.specs.Shown.{numberOr0, shownCall, callIn, Sent, Named, shownReply, shownEvent, trafficOf, shownLine};
+ghost use Rattle.calls_c.specs.Shown.{numberOr0, shownCall, callIn, Sent, Named, shownReply, answerOf, answerIn, Goes, SentReply, shownEvent, trafficOf, shownLine};
 
 // A call by its kind, 1 to 4, with what that kind has and 0 for the rest; or kind 0 and the number of a refusal.
 #[repr(C)]
@@ -262,22 +262,28 @@ pub extern "C" fn replies_event(events: &[u8], i: usize) -> EventFields
     }
 }
 
+fn reply_in<'a>(kind: u8, why: Option<Refusal>, events: &'a [u8]) -> Option<Reply<'a>>
+    ensures { λ r. ⌜ answerOf r ≡ answerIn kind why (now (events .entry)) ⌝ }
+{
+    match (kind, why) {
+        (0, Some(refusal)) => Some(Reply::Refused { refusal }),
+        (1, _) => Some(Reply::Yes),
+        (2, _) => Some(Reply::Out {
+            events: Events { bytes: events },
+        }),
+        (3, _) => Some(Reply::Full),
+        _ => None,
+    }
+}
+
 // How many bytes were written, 0 where there is no such answer or no room.
 #[unsafe(no_mangle)]
-pub extern "C" fn replies_encode(kind: u8, refused: u8, events: &[u8], out: &mut [u8]) -> usize {
-    let reply = match kind {
-        0 => {
-            let Some(refusal) = refusal_by(refused) else {
-                return 0;
-            };
-            Reply::Refused { refusal }
-        }
-        1 => Reply::Yes,
-        2 => Reply::Out {
-            events: Events { bytes: events },
-        },
-        3 => Reply::Full,
-        _ => return 0,
+pub extern "C" fn replies_encode(kind: u8, refused: u8, events: &[u8], out: &mut [u8]) -> usize
+    ensures { λ r. ⌜ ((q : Maybe Why) × Goes refused q × (x : Maybe ℕ) × SentReply (answerIn kind q (now (events .entry))) (now (out .entry)) (now (out .exit)) x × (r ≡ valueOr x 0)) ⌝ }
+{
+    let why = refusal_by(refused);
+    let Some(reply) = reply_in(kind, why, events) else {
+        return 0;
     };
     replies::coding::encode(reply, out).unwrap_or(0)
 }

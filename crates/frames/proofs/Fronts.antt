@@ -1,11 +1,9 @@
 -- What stands at the front of bytes, case by case; it stays as bytes are added behind. Assumes nothing.
 use mathlib.Core.Path.{_≡_, refl, sym, ap, subst, _∙_}
-use mathlib.Core.Bool.{cond}
-use mathlib.Core.Logic.{_⊎_, inl, inr, ⊎-elim}
+use mathlib.Core.Logic.{⊎-elim}
 use mathlib.Core.List.{List, [], _∷_, _++_}
-use Prim.Native.Nat.{ℕ, zero, suc, _+_, _-_, _*_, _<_, _≤_}
+use Prim.Native.Nat.{ℕ, _+_, _-_, _<_, _≤_}
 use native.Mathlib.Omega.{arith}
-use lib.Dec.{ltb}
 use lib.ListN.{length, getD, take, drop, length-append, length-drop}
 use lib.Seq.{drop-append-le, take-append-le, take-append-seam, drop-append-seam}
 use Rattle.std.proofs.shelf.Lists.{getD-append-left}
@@ -15,7 +13,7 @@ use Rattle.bytes.proofs.Bytes.{four-value, eight-value}
 use Rattle.bytes.proofs.Front.{drop-more}
 use Rattle.frames.specs.declared.kinds.Traffic.{Traffic}
 use Rattle.frames.specs.declared.kinds.Fault.the-variants.{TooLong, TooShort}
-use Rattle.frames.specs.Lines.{line, least, Seen, Whole, NotYet, Refused, seen, ReadAgain}
+use Rattle.frames.specs.Lines.{line, least, Seen, Whole, NotYet, Refused, seen, LinesAgain}
 
 module _ (t : Traffic) (bs : List ℕ) where
   pub at-short : length bs < 4 → seen t bs ≡ NotYet
@@ -154,8 +152,8 @@ whole-seen t n m bs bodies h2 hm e h3 h4 h5 h6 =
     let rest : drop (4 + fourOf bs) bs ≡ drop (n - 8) bodies = ap (λ k. drop k bs) (sym end) ∙ sym (drop-more 12 (n - 8) bs) ∙ ap (λ l. drop (n - 8) (drop 12 l)) e in
     at-whole t bs (omega arith) (omega arith) (omega arith) (omega arith) (omega arith) ∙ (λ i. Whole (number i) (body i) (rest i))
 
-pub read-again : ReadAgain
-read-again t n body rest hn fits some enough =
+pub lines-again : LinesAgain
+lines-again t n body rest hn fits some enough =
     let long = length-append body rest in
     let size : 8 + length body - 8 ≡ length body = omega arith in
     let first : getD (body ++ rest) 0 0 ≡ getD body 0 0 = getD-append-left body rest 0 0 some in

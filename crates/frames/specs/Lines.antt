@@ -10,6 +10,10 @@ use lib.ListN.{length, getD, take, drop}
 use Rattle.std.specs.declared.option.Option.{Option}
 use Rattle.std.specs.declared.option.Option.the-variants.{Some, None}
 use Rattle.bytes.specs.Form.{four, eight, fourOf, wordOf}
+use Rattle.streams.specs.Calls.{Reply}
+use Rattle.calls.specs.declared.kinds.Call.{Call}
+use Rattle.calls.specs.Form.{encoded}
+use Rattle.replies.specs.Form.{form}
 use Rattle.frames.specs.declared.kinds.Traffic.{Traffic}
 use Rattle.frames.specs.declared.kinds.Traffic.the-variants.{Calls, Replies}
 use Rattle.frames.specs.declared.kinds.Fault.{Fault}
@@ -104,6 +108,13 @@ abbrev pub Written : (number : ℕ) → List ℕ → (before after : List ℕ) �
 Written n body before after None = ((1048576 < 8 + length body) ⊎ (length before < length (line n body))) × (after ≡ before)
 Written n body before after (Some k) = Wrote n body k before after
 
--- WHAT WAS WRITTEN IS READ AGAIN, with what stands behind it, if it is as long as its kind asks
-abbrev pub ReadAgain : Type 0
-ReadAgain = (t : Traffic) (n : ℕ) (body rest : List ℕ) → n < 18446744073709551616 → 8 + length body ≤ 1048576 → 1 ≤ length body → least t (getD body 0 0) ≤ length body → seen t (line n body ++ rest) ≡ Whole n body rest
+-- what was written is read again, with what stands behind it, if it is as long as its kind asks
+abbrev pub LinesAgain : Type 0
+LinesAgain = (t : Traffic) (n : ℕ) (body rest : List ℕ) → n < 18446744073709551616 → 8 + length body ≤ 1048576 → 1 ≤ length body → least t (getD body 0 0) ≤ length body → seen t (line n body ++ rest) ≡ Whole n body rest
+
+-- EVERY CALL AND EVERY ANSWER that has bytes is read again off the front of a line
+abbrev pub CallsAgain : Type 0
+CallsAgain = (n : ℕ) (c : Call) (rest : List ℕ) → n < 18446744073709551616 → seen Calls (line n (encoded c) ++ rest) ≡ Whole n (encoded c) rest
+
+abbrev pub RepliesAgain : Type 0
+RepliesAgain = (n : ℕ) (a : Reply) (rest : List ℕ) → n < 18446744073709551616 → 8 + length (form a) ≤ 1048576 → seen Replies (line n (form a) ++ rest) ≡ Whole n (form a) rest

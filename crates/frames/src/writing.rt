@@ -3,8 +3,7 @@ use bytes::write_bytes;
 use bytes::write_eight;
 use bytes::write_four;
 use plans::numbers::CallNumber;
-ghost use mathlib.Core.Path.{_≡_};
-ghost use Rattle.frames.specs.Lines.{Written, ReadAgain};
+ghost use Rattle.frames.specs.Lines.{Written, CallsAgain, RepliesAgain};
 
 // A line's length is this at most, with the number's 8 bytes: 1 MiB.
 const LONGEST: usize = 1_048_576;
@@ -24,9 +23,10 @@ pub fn write(number: CallNumber, body: &[u8], out: &mut [u8]) -> Option<usize>
     Some(4 + length)
 }
 
-// What was written is read again, with what stands behind it.
+// Every call and every answer that is written on a line is read again, with what stands behind it.
 pub fn read_again() -> u8
-    ensures { λ _. ⌜ ReadAgain ⌝ }
+    ensures calls { λ _. ⌜ CallsAgain ⌝ }
+    ensures replies { λ _. ⌜ RepliesAgain ⌝ }
 {
     0
 }

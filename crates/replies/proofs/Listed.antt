@@ -1,7 +1,7 @@
 -- Events listed as bytes are read again, and bytes read as events are listed again. Assumes nothing.
 use mathlib.Core.Path.{_≡_, refl, sym, ap, _∙_}
 use mathlib.Core.List.{List, [], _∷_, _++_}
-use Prim.Native.Nat.{ℕ, zero, suc, _+_, _-_, _*_, _/_, _<_, _≤_}
+use Prim.Native.Nat.{ℕ, zero, suc, _+_, _-_, _*_, _<_, _≤_}
 use native.Mathlib.Omega.{arith}
 use lib.ListN.{length, getD, take, drop, length-drop}
 use lib.Seq.{take-all, getD-drop, take-append-add}
@@ -10,7 +10,7 @@ use Rattle.bytes.specs.Form.{eight, wordOf}
 use Rattle.bytes.proofs.Bytes.{eight-of, eight-value, eight-same}
 use Rattle.bytes.proofs.Front.{drop-more}
 use Rattle.replies.specs.Form.{EachFit}
-use Rattle.replies.specs.Listing.{listing, firstOf, listed, eventsIn}
+use Rattle.replies.specs.Listing.{listing, firstOf, listed}
 
 pub length-listed : (n : ℕ) (bs : List ℕ) → length (listed n bs) ≡ n
 length-listed zero bs = refl

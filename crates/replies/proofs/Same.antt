@@ -6,7 +6,7 @@ use native.Mathlib.Omega.{arith}
 use lib.ListN.{length, getD, take, drop, set}
 use lib.Seq.{take-all, length-take-le}
 use Rattle.std.specs.declared.option.Option.{Option}
-use Rattle.std.specs.declared.option.Option.the-variants.{Some, None}
+use Rattle.std.specs.declared.option.Option.the-variants.{None}
 use Rattle.streams.specs.Calls.{Reply, No, Yes, Outs, Full}
 use Rattle.bytes.specs.Form.{two}
 use Rattle.bytes.proofs.Bytes.{two-same}

@@ -10,6 +10,9 @@ ghost use lib.ListN.{length, drop};
 ghost use Rattle.bytes.specs.Form.{wordOf};
 ghost use Rattle.replies.specs.Listing.{eventsIn, Got};
 
+// How many bytes an event has.
+const EVENT: usize = 24;
+
 // A part of some bytes, taken as events. What stands behind the last whole one counts for nothing.
 #[derive(Clone, Copy)]
 pub struct Events<'a> {
@@ -31,20 +34,21 @@ impl<'a> Events<'a> {
     pub fn len(&self) -> usize
         ensures { λ r. ⌜ r ≡ length (eventsIn (now (now (self .entry) .bytes))) ⌝ }
     {
-        self.bytes.len() / 24
+        self.bytes.len() / EVENT
     }
 
     // The one at a place, from 0 on.
     pub fn get(&self, i: usize) -> Option<Event>
         ensures { λ r. ⌜ Got (eventsIn (now (now (self .entry) .bytes))) i r ⌝ }
     {
-        if i >= self.bytes.len() / 24 {
+        let bytes = self.bytes;
+        if i >= bytes.len() / EVENT {
             return None;
         }
-        let at = 24 * i;
-        let time = word_at(self.bytes, at);
-        let key = word_at(self.bytes, at + 8);
-        let value = word_at(self.bytes, at + 16);
+        let at = EVENT * i;
+        let time = word_at(bytes, at);
+        let key = word_at(bytes, at + 8);
+        let value = word_at(bytes, at + 16);
         Some(Event {
             time: Time(time),
             key: Key(key),

@@ -1,8 +1,5 @@
 use borrow.Author.Needs.{needs}
-use mathlib.Core.Path.{_≡_}
-use mathlib.Core.List.{[], _∷_}
-use Prim.Native.Nat.{_-_}
-use lib.ListN.{length, getD, take, drop}
+use mathlib.Core.List.{[]}
 use Rattle.std.specs.declared.result.Result.the-variants.{Err}
 use Rattle.calls.specs.declared.kinds.Refusal.the-variants.{Invalid, NotBuilt}
 use Rattle.bytes.proofs.Bytes.{front, none}

@@ -16,12 +16,12 @@ returns-in-rest c = no-out (c .args .b .now) (λ e. omega (arith, c .in-rest .en
 pub returns-in-rest-two-from : need.returns-in-rest-two-from
 returns-in-rest-two-from c = no-out (c .args .b .now) (λ e. omega (arith, ap length (c .in-Some .ensures tt), c .in-rest-two-from .ensures tt))
 
-pub returns-in-rest-more : need.returns-in-rest-more
-returns-in-rest-more c = no-out (c .args .b .now) (λ e. let long : 1 ≤ length (c .in-Some-two-from .more .now) = search needs in omega (arith, ap length (c .in-Some .ensures tt), ap length (c .in-Some-two-from .ensures tt)))
+pub returns-in-rest-behind : need.returns-in-rest-behind
+returns-in-rest-behind c = no-out (c .args .b .now) (λ e. let long : 1 ≤ length (c .in-Some-two-from .behind .now) = search needs in omega (arith, ap length (c .in-Some .ensures tt), ap length (c .in-Some-two-from .ensures tt)))
 
 pub returns : need.returns
 unfolding core
 returns c =
-    let end : c .in-Some-two-from .more .now ≡ [] = none _ (search needs) in
+    let end : c .in-Some-two-from .behind .now ≡ [] = none _ (search needs) in
     let counts = c .in-Some-two-from .ensures tt ∙ ap (λ l. two (c .in-Some-two-from .most) ++ l) end in
     (ap (λ l. 3 ∷ l) (c .in-Some .ensures tt ∙ ap (λ l. eight (c .in-Some .from) ++ l) counts), (search needs, search needs), refl)

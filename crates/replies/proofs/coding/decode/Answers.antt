@@ -1,7 +1,4 @@
 use borrow.Author.Needs.{needs}
-use mathlib.Core.Path.{_≡_, ap, _∙_}
-use mathlib.Core.List.{[], _∷_}
-use lib.ListN.{length}
 use Rattle.streams.specs.Calls.{Yes, Full}
 use Rattle.bytes.proofs.Bytes.{front}
 use Rattle.replies.proofs.Same.{told, with-kind, lone}
