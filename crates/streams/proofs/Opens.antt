@@ -93,6 +93,13 @@ past-ended m n (c ∷ cs) h =
     let r : Past m (ended n cs) = past-ended m n cs (h .1) in
     elim (leb (c .end) n) as (λ b. Past m (cond b (c ∷ ended n cs) (ended n cs))) [ true ↦ (h .0, r) | false ↦ r ]
 
+-- whatever other events come to the same windows that have ended: what comes of the stage later goes on from there
+pub stage-stands : (m n : ℕ) (st : Stage) (es fs : List Event) → m ≤ n → ended m (cells st fs) ≡ ended m (cells st es) → (more : List Event) × (through st n fs ≡ through st m es ++ more) × Since m more
+stage-stands m n st es fs h q =
+    (eventsOf (ended n (openOf m (cells st fs))),
+     rw (ended-split m n (cells st fs) h (sorted st fs), q) (events-both (ended m (cells st es)) (ended n (openOf m (cells st fs)))),
+     past-since m (ended n (openOf m (cells st fs))) (past-ended m n (openOf m (cells st fs)) (open-past m (cells st fs))))
+
 -- all stages
 pub record FlowIs (sts : List Stage) (m n : ℕ) (es more : List Event) : Type 0 where
   pub opens : flow sts n more (opensOf sts m es) .opens ≡ opensOf sts n (es ++ more)
