@@ -74,6 +74,11 @@ chained-blank : (l : Level) (inner : Reader Expr) (bs : List ℕ) → chained l 
 unfolding chained chain
 chained-blank l inner bs = ap (λ g. after g (λ a rest. more l (operand l inner) 64 a rest)) (operand-blank l inner bs)
 
+pub expression-blank : (deep : ℕ) (bs : List ℕ) → expression deep (32 ∷ bs) ≡ expression deep bs
+unfolding expression compared
+expression-blank zero bs = rw (chained-blank level.Sum _ bs)
+expression-blank (suc deep) bs = rw (chained-blank level.Sum _ bs)
+
 -- ---- chains
 module _ (l : Level) (inner : Reader Expr) where
   chain-first : (t : List ℕ) (e : Expr) → OperandReads l inner t e → ChainReads l inner t e

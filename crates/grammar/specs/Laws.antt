@@ -1,0 +1,22 @@
+-- What holds of the reading and the printing of plans. Assumes nothing.
+use mathlib.Core.Path.{_≡_}
+use mathlib.Core.Bool.{true}
+use mathlib.Core.List.{List, []}
+use Prim.Native.Nat.{ℕ, _≤_}
+use lib.ListN.{length}
+use Rattle.streams.specs.Meaning.{Plan}
+use Rattle.streams.specs.Calls.{planOk}
+use Rattle.grammar.specs.Reading.{got, reading}
+use Rattle.grammar.specs.Printing.{printed}
+
+-- WHAT IS READ IS A PLAN WITHIN THE LIMITS
+abbrev pub ReadsValid : Type 0
+ReadsValid = (text : List ℕ) (p : Plan) (rest : List ℕ) → reading text ≡ got p rest → planOk p ≡ true
+
+-- WHAT IS PRINTED OF A PLAN WITHIN THE LIMITS FITS INTO A TEXT
+abbrev pub PrintFits : Type 0
+PrintFits = (p : Plan) → planOk p ≡ true → length (printed p) ≤ 65536
+
+-- WHAT IS PRINTED OF A PLAN WITHIN THE LIMITS IS READ AS THAT PLAN
+abbrev pub PrintReads : Type 0
+PrintReads = (p : Plan) → planOk p ≡ true → reading (printed p) ≡ got p []
