@@ -89,18 +89,37 @@ pub(crate) fn leaf(b: &[u8], at: usize) -> Result<Part, Fault>
 {
     if is_digit(b, at) {
         let number = digits(b, at)?;
-        return Ok(Part { expr: Expr::Num(number.n), parts: 1, end: number.end });
+        return Ok(Part {
+            expr: Expr::Num(number.n),
+            parts: 1,
+            end: number.end,
+        });
     }
     if is_word(b, at, b"time") {
-        return Ok(Part { expr: Expr::Time, parts: 1, end: at + 4 });
+        return Ok(Part {
+            expr: Expr::Time,
+            parts: 1,
+            end: at + 4,
+        });
     }
     if is_word(b, at, b"key") {
-        return Ok(Part { expr: Expr::Key, parts: 1, end: at + 3 });
+        return Ok(Part {
+            expr: Expr::Key,
+            parts: 1,
+            end: at + 3,
+        });
     }
     if is_word(b, at, b"value") {
-        return Ok(Part { expr: Expr::Value, parts: 1, end: at + 5 });
+        return Ok(Part {
+            expr: Expr::Value,
+            parts: 1,
+            end: at + 5,
+        });
     }
-    Err(Fault::Refused(Refusal { at, why: Why::Operand }))
+    Err(Fault::Refused(Refusal {
+        at,
+        why: Why::Operand,
+    }))
 }
 
 fn pair(op: Operator, a: Box<Expr>, b: Box<Expr>) -> Expr
@@ -118,19 +137,40 @@ fn pair(op: Operator, a: Box<Expr>, b: Box<Expr>) -> Expr
 }
 
 // Two expressions joined by the operator at `at`.
-pub(crate) fn joined(heap: Global, op: Operator, at: usize, left: Part, right: Part) -> Result<Part, Fault>
+pub(crate) fn joined(
+    heap: Global,
+    op: Operator,
+    at: usize,
+    left: Part,
+    right: Part,
+) -> Result<Part, Fault>
     requires { ⌜ left .parts ≤ 64 ⌝ ∗ ⌜ right .parts ≤ 64 ⌝ }
     ensures { λ r. ⌜ Joins op at left right r ⌝ }
 {
-    let Part { expr: first, parts: before, end: _ } = left;
-    let Part { expr: second, parts: behind, end } = right;
+    let Part {
+        expr: first,
+        parts: before,
+        end: _,
+    } = left;
+    let Part {
+        expr: second,
+        parts: behind,
+        end,
+    } = right;
     let parts = 1 + (before + behind);
     if parts > MOST {
-        return Err(Fault::Refused(Refusal { at, why: Why::Parts }));
+        return Err(Fault::Refused(Refusal {
+            at,
+            why: Why::Parts,
+        }));
     }
     let a = Box::new(heap, first)?;
     let b = Box::new(heap, second)?;
-    Ok(Part { expr: pair(op, a, b), parts, end })
+    Ok(Part {
+        expr: pair(op, a, b),
+        parts,
+        end,
+    })
 }
 
 // The not, by the `!` at `at`, of an expression.
@@ -140,8 +180,15 @@ pub(crate) fn negated(heap: Global, at: usize, part: Part) -> Result<Part, Fault
 {
     let Part { expr, parts, end } = part;
     if parts >= MOST {
-        return Err(Fault::Refused(Refusal { at, why: Why::Parts }));
+        return Err(Fault::Refused(Refusal {
+            at,
+            why: Why::Parts,
+        }));
     }
     let a = Box::new(heap, expr)?;
-    Ok(Part { expr: Expr::Not(a), parts: 1 + parts, end })
+    Ok(Part {
+        expr: Expr::Not(a),
+        parts: 1 + parts,
+        end,
+    })
 }

@@ -36,7 +36,10 @@ pub fn expression(heap: Global, b: &[u8], at: usize, deep: u8) -> Result<Part, F
     let end = skip(b, both.end);
     match comparison(b, end) {
         None => Ok(both),
-        Some(_) => Err(Fault::Refused(Refusal { at: end, why: Why::Chained })),
+        Some(_) => Err(Fault::Refused(Refusal {
+            at: end,
+            why: Why::Chained,
+        })),
     }
 }
 
@@ -75,7 +78,10 @@ fn factor(heap: Global, b: &[u8], at: usize, deep: u8, nots: u8) -> Result<Part,
     let place = skip(b, at);
     if is(b, place, b'!') {
         if nots == 0 {
-            return Err(Fault::Refused(Refusal { at: place, why: Why::Parts }));
+            return Err(Fault::Refused(Refusal {
+                at: place,
+                why: Why::Parts,
+            }));
         }
         let inner = factor(heap, b, place + 1, deep, nots - 1)?;
         return negated(heap, place, inner);
@@ -97,8 +103,19 @@ fn bracket(heap: Global, b: &[u8], at: usize, deep: u8) -> Result<Part, Fault>
     let inner = expression(heap, b, at + 1, deep - 1)?;
     let place = skip(b, inner.end);
     if !is(b, place, b')') {
-        return Err(Fault::Refused(Refusal { at: place, why: Why::Close }));
+        return Err(Fault::Refused(Refusal {
+            at: place,
+            why: Why::Close,
+        }));
     }
-    let Part { expr, parts, end: _ } = inner;
-    Ok(Part { expr, parts, end: place + 1 })
+    let Part {
+        expr,
+        parts,
+        end: _,
+    } = inner;
+    Ok(Part {
+        expr,
+        parts,
+        end: place + 1,
+    })
 }

@@ -22,9 +22,9 @@ front-at xs i h = rw (add-one, drop-cons xs i 0)
 pub none-at : (xs : List ℕ) (i : ℕ) → length xs ≤ i → drop i xs ≡ []
 none-at xs i h = nil (drop i xs) (length-drop i xs ∙ omega arith)
   where
-  nil : (ys : List ℕ) → length ys ≡ 0 → ys ≡ []
-  nil [] e = refl
-  nil (y ∷ ys) e = absurd (omega arith)
+    nil : (ys : List ℕ) → length ys ≡ 0 → ys ≡ []
+    nil [] e = refl
+    nil (y ∷ ys) e = absurd (omega arith)
 
 module _ (xs : List ℕ) (i : ℕ) where
   pub is-at : (c : ℕ) → i < length xs → is c (drop i xs) ≡ eqb (getD xs i 0) c

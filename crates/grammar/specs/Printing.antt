@@ -100,7 +100,7 @@ named Greatest = codes "greatest"
 unfoldable pub stageText : Stage → List ℕ
 stageText s =
     said (codes "keep") (isOne (s .keep')) (s .keep')
-      ++ (said (codes "key") (isKey (s .key)) (s .key) ++ (said (codes "value") (isValue (s .value)) (s .value) ++ (codes "in " ++ (decimal (s .size) ++ (32 ∷ named (s .sum))))))
+    ++ (said (codes "key") (isKey (s .key)) (s .key) ++ (said (codes "value") (isValue (s .value)) (s .value) ++ (codes "in " ++ (decimal (s .size) ++ (32 ∷ named (s .sum))))))
 
 unfoldable pub stagesText : List Stage → List ℕ
 stagesText [] = []

@@ -128,7 +128,7 @@ unfoldable pub leaf : Reader Expr
 leaf bs =
     cond (isDigit bs) (after (digits bs 0 bs) (λ n rest. got (Num n) rest))
     (cond (isWord (codes "time") bs) (got Time (drop 4 bs))
-      (cond (isWord (codes "key") bs) (got Key (drop 3 bs)) (cond (isWord (codes "value") bs) (got Value (drop 5 bs)) (bad Operand bs))))
+    (cond (isWord (codes "key") bs) (got Key (drop 3 bs)) (cond (isWord (codes "value") bs) (got Value (drop 5 bs)) (bad Operand bs))))
 
 -- `inner` reads from an opening bracket to the closing one
 unfoldable pub factor : (inner : Reader Expr) → (nots : ℕ) → Reader Expr
@@ -153,7 +153,7 @@ unfoldable pub compared : (sum : Reader Expr) → Reader Expr
 compared sum bs =
     after (sum bs)
     (λ a rest.
-      orElse (comparison (skip rest)) (got a rest) (λ o. after (sum (next (skip rest))) (λ b end. after (join o (skip rest) a b end) single)))
+    orElse (comparison (skip rest)) (got a rest) (λ o. after (sum (next (skip rest))) (λ b end. after (join o (skip rest) a b end) single)))
 
 unfoldable pub closed : Expr → Reader Expr
 closed a rest = cond (is 41 (skip rest)) (got a (next (skip rest))) (bad Close (skip rest))
@@ -183,8 +183,8 @@ unfoldable pub aggregate : Reader Sum
 aggregate bs =
     cond (isWord (codes "count") (skip bs)) (got Count (drop 5 (skip bs)))
     (cond (isWord (codes "total") (skip bs)) (got Total (drop 5 (skip bs)))
-      (cond (isWord (codes "least") (skip bs)) (got Least (drop 5 (skip bs)))
-        (cond (isWord (codes "greatest") (skip bs)) (got Greatest (drop 8 (skip bs))) (bad Aggregate (skip bs)))))
+    (cond (isWord (codes "least") (skip bs)) (got Least (drop 5 (skip bs)))
+    (cond (isWord (codes "greatest") (skip bs)) (got Greatest (drop 8 (skip bs))) (bad Aggregate (skip bs)))))
 
 unfoldable pub stage : Reader Stage
 stage bs =

@@ -100,7 +100,7 @@ module _ (all : Got (List Stage)) (b : List ℕ) (place : ℕ) (before : List St
         is = staged h e ∙ rw i (ap (λ n. stages n (before ++ (st ∷ [])) (drop end b)) room);
         skipped = k;
         inside = l;
-        few = omega arith
+        few = omega arith;
       }
 
   pub no-semicolon : is 59 (drop place b) ≡ false → (place < length b) ⊎ (length before ≡ 0) → all ≡ bad Semicolon (drop place b)

@@ -22,13 +22,22 @@ pub fn read(heap: Global, text: &[u8]) -> Result<Plan, Fault>
     ensures again { λ r. ⌜ ReadAgain (now (text .entry)) r ⌝ }
 {
     if text.len() > LONGEST {
-        return Err(Fault::Refused(Refusal { at: LONGEST, why: Why::Long }));
+        return Err(Fault::Refused(Refusal {
+            at: LONGEST,
+            why: Why::Long,
+        }));
     }
     let place = skip(text, 0);
     if !is_word(text, place, b"late") {
-        return Err(Fault::Refused(Refusal { at: place, why: Why::Late }));
+        return Err(Fault::Refused(Refusal {
+            at: place,
+            why: Why::Late,
+        }));
     }
     let late = limited(text, place + 4, 0, Why::Lateness)?;
     let all = stages(heap, text, late.end)?;
-    Ok(Plan { late: Span(late.n), stages: all })
+    Ok(Plan {
+        late: Span(late.n),
+        stages: all,
+    })
 }

@@ -56,7 +56,11 @@ fn part(heap: Global, b: &[u8], at: usize, word: &[u8], left_out: Expr) -> Resul
     if is_word(b, place, word) {
         return expression(heap, b, place + word.len(), DEEP);
     }
-    Ok(Part { expr: left_out, parts: 1, end: at })
+    Ok(Part {
+        expr: left_out,
+        parts: 1,
+        end: at,
+    })
 }
 
 fn window(b: &[u8], at: usize) -> Result<Number, Fault>
@@ -65,7 +69,10 @@ fn window(b: &[u8], at: usize) -> Result<Number, Fault>
 {
     let place = skip(b, at);
     if !is_word(b, place, b"in") {
-        return Err(Fault::Refused(Refusal { at: place, why: Why::Window }));
+        return Err(Fault::Refused(Refusal {
+            at: place,
+            why: Why::Window,
+        }));
     }
     limited(b, place + 2, 1, Why::Size)
 }
@@ -76,18 +83,33 @@ fn aggregate(b: &[u8], at: usize) -> Result<Named, Fault>
 {
     let place = skip(b, at);
     if is_word(b, place, b"count") {
-        return Ok(Named { aggregate: Aggregate::Count, end: place + 5 });
+        return Ok(Named {
+            aggregate: Aggregate::Count,
+            end: place + 5,
+        });
     }
     if is_word(b, place, b"total") {
-        return Ok(Named { aggregate: Aggregate::Total, end: place + 5 });
+        return Ok(Named {
+            aggregate: Aggregate::Total,
+            end: place + 5,
+        });
     }
     if is_word(b, place, b"least") {
-        return Ok(Named { aggregate: Aggregate::Least, end: place + 5 });
+        return Ok(Named {
+            aggregate: Aggregate::Least,
+            end: place + 5,
+        });
     }
     if is_word(b, place, b"greatest") {
-        return Ok(Named { aggregate: Aggregate::Greatest, end: place + 8 });
+        return Ok(Named {
+            aggregate: Aggregate::Greatest,
+            end: place + 8,
+        });
     }
-    Err(Fault::Refused(Refusal { at: place, why: Why::Aggregate }))
+    Err(Fault::Refused(Refusal {
+        at: place,
+        why: Why::Aggregate,
+    }))
 }
 
 // The stage at `at`, which is behind its semicolon.
@@ -95,13 +117,34 @@ fn stage(heap: Global, b: &[u8], at: usize) -> Result<Staged, Fault>
     requires { ⌜ at ≤ length (now b) ⌝ }
     ensures { λ r. ⌜ SaysStage (stageAt (drop at (now (b .entry)))) (now (b .entry)) r ⌝ }
 {
-    let Part { expr: keep, parts: _, end } = part(heap, b, at, b"keep", Expr::Num(1))?;
-    let Part { expr: key, parts: _, end } = part(heap, b, end, b"key", Expr::Key)?;
-    let Part { expr: value, parts: _, end } = part(heap, b, end, b"value", Expr::Value)?;
+    let Part {
+        expr: keep,
+        parts: _,
+        end,
+    } = part(heap, b, at, b"keep", Expr::Num(1))?;
+    let Part {
+        expr: key,
+        parts: _,
+        end,
+    } = part(heap, b, end, b"key", Expr::Key)?;
+    let Part {
+        expr: value,
+        parts: _,
+        end,
+    } = part(heap, b, end, b"value", Expr::Value)?;
     let size = window(b, end)?;
     let named = aggregate(b, size.end)?;
-    let stage = Stage { keep, key, value, size: Span(size.n), aggregate: named.aggregate };
-    Ok(Staged { stage, end: named.end })
+    let stage = Stage {
+        keep,
+        key,
+        value,
+        size: Span(size.n),
+        aggregate: named.aggregate,
+    };
+    Ok(Staged {
+        stage,
+        end: named.end,
+    })
 }
 
 // One stage after the other, to the end of the text.
@@ -113,14 +156,20 @@ pub(crate) fn stages(heap: Global, b: &[u8], at: usize) -> Result<Vec<Stage>, Fa
     let mut place = skip(b, at);
     while is(b, place, b';') {
         if all.len() >= MOST {
-            return Err(Fault::Refused(Refusal { at: place, why: Why::Stages }));
+            return Err(Fault::Refused(Refusal {
+                at: place,
+                why: Why::Stages,
+            }));
         }
         let Staged { stage: next, end } = stage(heap, b, place + 1)?;
         all.push(next)?;
         place = skip(b, end);
     }
     if place < b.len() || all.is_empty() {
-        return Err(Fault::Refused(Refusal { at: place, why: Why::Semicolon }));
+        return Err(Fault::Refused(Refusal {
+            at: place,
+            why: Why::Semicolon,
+        }));
     }
     Ok(all)
 }

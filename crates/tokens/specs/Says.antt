@@ -25,6 +25,15 @@ abbrev pub Refuses : {A : Type 0} → Got A → List ℕ → Fault → Type 0
 Refuses g b Memory = Unit {0}
 Refuses g b (Refused r) = (g ≡ bad (r .why) (drop (r .at) b)) × (r .at ≤ length b)
 
+-- the same where no memory is asked for
+abbrev pub Refuted : {A : Type 0} → Got A → List ℕ → Fault → Type 0
+Refuted g b Memory = ⊥
+Refuted g b (Refused r) = Refuses g b (Refused r)
+
+abbrev pub SaysDigits : Got ℕ → List ℕ → Result Number Fault → Type 0
+SaysDigits g b (Ok r) = Read g b (r .n) (r .end)
+SaysDigits g b (Err e) = Refuted g b e
+
 abbrev pub SaysNumber : Got ℕ → List ℕ → Result Number Fault → Type 0
 SaysNumber g b (Ok r) = Read g b (r .n) (r .end)
 SaysNumber g b (Err e) = Refuses g b e

@@ -5,7 +5,7 @@ ghost use mathlib.Core.Bool.{true};
 ghost use mathlib.Core.Path.{_≡_};
 ghost use Prim.Native.Nat.{_+_, _<_, _≤_};
 ghost use Rattle.grammar.specs.Reading.{blank, letter as letterByte, is as isHere, isDigit, isLetter, isWord, digits as digitsAt, limited as limitedAt};
-ghost use Rattle.tokens.specs.Says.{Skips, SaysNumber};
+ghost use Rattle.tokens.specs.Says.{Skips, SaysDigits, SaysNumber};
 use crate::faults::Fault;
 use crate::faults::Number;
 use grammar::refusals::Refusal;
@@ -77,22 +77,31 @@ pub fn is_word(b: &[u8], at: usize, word: &[u8]) -> bool
 // The number whose first digit stands at `at`.
 pub fn digits(b: &[u8], at: usize) -> Result<Number, Fault>
     requires { ⌜ at ≤ length (now b) ⌝ }
-    ensures { λ r. ⌜ SaysNumber (digitsAt (drop at (now (b .entry))) 0 (drop at (now (b .entry)))) (now (b .entry)) r ⌝ }
+    ensures { λ r. ⌜ SaysDigits (digitsAt (drop at (now (b .entry))) 0 (drop at (now (b .entry)))) (now (b .entry)) r ⌝ }
 {
     let mut n: u64 = 0;
     let mut i = at;
     while is_digit(b, i) {
         let Some(tens) = n.checked_mul(10) else {
-            return Err(Fault::Refused(Refusal { at, why: Why::Large }));
+            return Err(Fault::Refused(Refusal {
+                at,
+                why: Why::Large,
+            }));
         };
         let Some(more) = tens.checked_add(u64::from(b[i] - b'0')) else {
-            return Err(Fault::Refused(Refusal { at, why: Why::Large }));
+            return Err(Fault::Refused(Refusal {
+                at,
+                why: Why::Large,
+            }));
         };
         n = more;
         i += 1;
     }
     if is_letter(b, i) {
-        return Err(Fault::Refused(Refusal { at: i, why: Why::Joined }));
+        return Err(Fault::Refused(Refusal {
+            at: i,
+            why: Why::Joined,
+        }));
     }
     Ok(Number { n, end: i })
 }
@@ -107,7 +116,10 @@ pub fn limited(b: &[u8], at: usize, low: u64, why: Why) -> Result<Number, Fault>
 {
     let start = skip(b, at);
     if !is_digit(b, start) {
-        return Err(Fault::Refused(Refusal { at: start, why: Why::Number }));
+        return Err(Fault::Refused(Refusal {
+            at: start,
+            why: Why::Number,
+        }));
     }
     let number = digits(b, start)?;
     if number.n < low || number.n > LONGEST {

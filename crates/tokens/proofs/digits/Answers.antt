@@ -13,10 +13,9 @@ returns-in-rest c =
 
 pub returns-in-rest-checked-add : need.returns-in-rest-checked-add
 returns-in-rest-checked-add c =
-    let t = c .loop-tens-test .ensures tt in
-    (
+    let t = c .loop-tens-test .ensures tt in (
       c .loop-tens .inv .0
-        ∙ digits-large (drop (c .args .at) (c .args .b .now)) (c .loop-tens .n) (c .args .b .now) (c .loop-tens .i) (t .room refl) (sym (t .value)) (omega (arith, c .in-rest-checked-add .ensures tt, c .in-Some .ensures tt)),
+          ∙ digits-large (drop (c .args .at) (c .args .b .now)) (c .loop-tens .n) (c .args .b .now) (c .loop-tens .i) (t .room refl) (sym (t .value)) (omega (arith, c .in-rest-checked-add .ensures tt, c .in-Some .ensures tt)),
       c .pre,
     )
 
@@ -24,11 +23,10 @@ pub loop-tens-again : need.loop-tens-again
 loop-tens-again c =
     let t = c .loop-tens-test .ensures tt in
     let room = t .room refl in
-    let sum : c .loop-tens .n * 10 + (getD (c .args .b .now) (c .loop-tens .i) 0 - 48) ≡ c .in-Some-checked-add .more = omega (arith, c .in-Some-checked-add .ensures tt, c .in-Some .ensures tt) in
-    (
+    let sum : c .loop-tens .n * 10 + (getD (c .args .b .now) (c .loop-tens .i) 0 - 48) ≡ c .in-Some-checked-add .more = omega (arith, c .in-Some-checked-add .ensures tt, c .in-Some .ensures tt) in (
       c .loop-tens .inv .0
-        ∙ digits-goes (drop (c .args .at) (c .args .b .now)) (c .loop-tens .n) (c .args .b .now) (c .loop-tens .i) room (sym (t .value)) (omega (arith, c .in-Some-checked-add .ensures tt))
-        ∙ ap (λ n. digits (drop (c .args .at) (c .args .b .now)) n (drop (c .loop-tens .i + 1) (c .args .b .now))) sum,
+          ∙ digits-goes (drop (c .args .at) (c .args .b .now)) (c .loop-tens .n) (c .args .b .now) (c .loop-tens .i) room (sym (t .value)) (omega (arith, c .in-Some-checked-add .ensures tt))
+          ∙ ap (λ n. digits (drop (c .args .at) (c .args .b .now)) n (drop (c .loop-tens .i + 1) (c .args .b .now))) sum,
       omega arith,
     )
 
@@ -40,7 +38,7 @@ pub returns : need.returns
 returns c =
     record {
       is = c .loop-tens .inv .0 ∙ digits-done (drop (c .args .at) (c .args .b .now)) (c .loop-tens .n) (drop (c .loop-tens .i) (c .args .b .now)) (sym (c .loop-tens-test .ensures tt .value)) (sym (c .if-is-letter .ensures tt));
-      inside = c .loop-tens .inv .1
+      inside = c .loop-tens .inv .1;
     }
 
 pub sub-b : need.sub-b

@@ -9,7 +9,7 @@ pub returns-then-not-is : need.returns-then-not-is
 returns-then-not-is c =
     record {
       value = sym (c .loop-i .inv .0 ∙ word-miss (c .args .word .now) (c .args .b .now) (c .args .at) (c .loop-i .i) (c .loop-i-test .taken) (sym (c .if-not-is .ensures tt .value)));
-      room = λ e. absurd (false≢true e)
+      room = λ e. absurd (false≢true e);
     }
 
 pub loop-i-again : need.loop-i-again
@@ -22,7 +22,7 @@ returns-then-not-is-letter c =
     let all : c .loop-i .i ≡ length (c .args .word .now) = omega (arith, c .loop-i .kept .i-end, c .loop-i-test .left) in
     record {
       value = sym (c .loop-i .inv .0 ∙ word-last (c .args .word .now) (c .args .b .now) (c .args .at) (c .loop-i .i) all (sym (c .if-not-is-letter .ensures tt)) (sym (c .is-digit .ensures .value)));
-      room = λ _. omega (arith, c .loop-i .inv .1)
+      room = λ _. omega (arith, c .loop-i .inv .1);
     }
 
 pub returns-else-not-is-letter : need.returns-else-not-is-letter
@@ -30,5 +30,5 @@ returns-else-not-is-letter c =
     let all : c .loop-i .i ≡ length (c .args .word .now) = omega (arith, c .loop-i .kept .i-end, c .loop-i-test .left) in
     record {
       value = rw (c .if-not-is-letter .left) (sym (c .loop-i .inv .0 ∙ word-last (c .args .word .now) (c .args .b .now) (c .args .at) (c .loop-i .i) all (sym (c .if-not-is-letter .ensures tt)) refl));
-      room = λ _. omega (arith, c .loop-i .inv .1)
+      room = λ _. omega (arith, c .loop-i .inv .1);
     }

@@ -5,7 +5,7 @@ use native.Mathlib.Omega.{arith}
 use Rattle.std.proofs.shelf.Results.{err-from-errBy}
 use Rattle.streams.specs.Calls.{parts}
 use Rattle.grammar.specs.Reading.{digits, leaf, after}
-use Rattle.tokens.proofs.Hands.{hand-on}
+use Rattle.tokens.proofs.Hands.{hand-on, refuses}
 use Rattle.formulas.proofs.parts.leaf.Needs as need
 
 pub returns-in-Break-number : need.returns-in-Break-number
@@ -13,7 +13,7 @@ unfolding leaf after
 returns-in-Break-number c =
     let p = err-from-errBy (c .from-residual .result) (c .from-residual .ensures .1) in
     let s = drop (c .args .at) (c .args .b .now) in
-    rw (p .1, p .2) (hand-on (digits s 0 s) (leaf s) (c .args .b .now) (c .in-Break-number .field-0 .0) (λ why rest is. rw (sym (c .if-is-digit .ensures tt .value), is)) (c .in-Break-number .ensures tt))
+    rw (p .1, p .2) (hand-on (digits s 0 s) (leaf s) (c .args .b .now) (c .in-Break-number .field-0 .0) (λ why rest is. rw (sym (c .if-is-digit .ensures tt .value), is)) (refuses (digits s 0 s) (c .args .b .now) (c .in-Break-number .field-0 .0) (c .in-Break-number .ensures tt)))
 
 pub returns-then-is-digit : need.returns-then-is-digit
 unfolding leaf after parts
@@ -32,7 +32,7 @@ returns-then-is-word-2 c =
       is = rw (sym (c .if-is-digit .ensures tt .value), sym (c .if-is-word .ensures tt .value), sym (c .if-is-word-2 .ensures tt .value), drop-drop);
       inside = c .if-is-word-2 .ensures tt .room refl;
       counted = refl;
-      few = omega arith
+      few = omega arith;
     }
 
 pub returns-then-is-word-3 : need.returns-then-is-word-3
@@ -42,7 +42,7 @@ returns-then-is-word-3 c =
       is = rw (sym (c .if-is-digit .ensures tt .value), sym (c .if-is-word .ensures tt .value), sym (c .if-is-word-2 .ensures tt .value), sym (c .if-is-word-3 .ensures tt .value), drop-drop);
       inside = c .if-is-word-3 .ensures tt .room refl;
       counted = refl;
-      few = omega arith
+      few = omega arith;
     }
 
 pub returns : need.returns

@@ -27,11 +27,10 @@ bracket-returns-in-Break-inner t c =
 pub bracket-returns-then-not-is : need.bracket-returns-then-not-is
 bracket-returns-then-not-is t c =
     let b = c .args .b .now in
-    let inner = c .in-Continue-inner .ensures tt in
-    (
+    let inner = c .in-Continue-inner .ensures tt in (
       bracket-in (c .args .deep) (drop (c .args .at) b) (drop (c .args .at + 1) b) (drop-drop 1 (c .args .at) b) (c .if-deep-eq0 .left)
-        ∙ after-got _ closed (inner .is)
-        ∙ closed-bad (exprOf (c .in-Continue-inner .inner .expr)) (drop (c .in-Continue-inner .inner .end) b) (drop (c .skip-place .result) b) b (c .skip-place .ensures .skipped) (sym (c .if-not-is .ensures tt .value)),
+          ∙ after-got _ closed (inner .is)
+          ∙ closed-bad (exprOf (c .in-Continue-inner .inner .expr)) (drop (c .in-Continue-inner .inner .end) b) (drop (c .skip-place .result) b) b (c .skip-place .ensures .skipped) (sym (c .if-not-is .ensures tt .value)),
       c .skip-place .ensures .inside,
     )
 
@@ -41,12 +40,12 @@ bracket-returns t c =
     let inner = c .in-Continue-inner .ensures tt in
     record {
       is =
-        bracket-in (c .args .deep) (drop (c .args .at) b) (drop (c .args .at + 1) b) (drop-drop 1 (c .args .at) b) (c .if-deep-eq0 .left)
+          bracket-in (c .args .deep) (drop (c .args .at) b) (drop (c .args .at + 1) b) (drop-drop 1 (c .args .at) b) (c .if-deep-eq0 .left)
           ∙ after-got _ closed (inner .is)
           ∙ closed-ok (exprOf (c .in-Continue-inner .inner .expr)) (drop (c .in-Continue-inner .inner .end) b) (drop (c .skip-place .result) b) (drop (c .skip-place .result + 1) b) (c .skip-place .ensures .skipped) (drop-drop 1 (c .skip-place .result) b) (sym (c .if-not-is .ensures tt .value));
       inside = omega (arith, c .if-not-is .ensures tt .room refl);
       counted = inner .counted;
-      few = inner .few
+      few = inner .few;
     }
 
 pub chain-returns-in-Break-left : need.chain-returns-in-Break-left
@@ -66,7 +65,7 @@ chain-loop-op-holds t c =
       is = chained-got (c .args .level) (bracket (c .args .deep)) (drop (c .args .at) (c .args .b .now)) (first .is);
       inside = first .inside;
       counted = first .counted;
-      few = first .few
+      few = first .few;
     }
 
 pub chain-returns-in-rest : need.chain-returns-in-rest
@@ -77,7 +76,7 @@ chain-returns-in-rest t c =
       is = going .is ∙ more-none (c .args .level) (operand (c .args .level) (bracket (c .args .deep))) (going .turns) (exprOf (c .loop-op .left .expr)) (drop (c .loop-op .left .end) b) (drop (c .skip-place .result) b) (c .skip-place .ensures .skipped) (omega (arith, going .enough, going .few)) (c .in-rest .ensures tt);
       inside = going .inside;
       counted = going .counted;
-      few = going .few
+      few = going .few;
     }
 
 pub chain-returns-in-Break-right : need.chain-returns-in-Break-right
@@ -87,8 +86,8 @@ chain-returns-in-Break-right t c =
     let s = drop (c .args .at) b in
     rw (p .1, p .2)
     (hand-on (operand (c .args .level) (bracket (c .args .deep)) (drop (c .skip-place .result + 1) b)) (chained (c .args .level) (bracket (c .args .deep)) s) b (c .in-Break-right .field-0 .0)
-      (λ why rest is. turn-bad (c .args .level) (bracket (c .args .deep)) s b (c .loop-op .left) (c .loop-op .left) (c .skip-place .result) (c .in-Some .op) (c .loop-op .inv) (c .skip-place .ensures .skipped) (c .in-Some .ensures tt .0) is)
-      (c .in-Break-right .ensures tt))
+    (λ why rest is. turn-bad (c .args .level) (bracket (c .args .deep)) s b (c .loop-op .left) (c .loop-op .left) (c .skip-place .result) (c .in-Some .op) (c .loop-op .inv) (c .skip-place .ensures .skipped) (c .in-Some .ensures tt .0) is)
+    (c .in-Break-right .ensures tt))
 
 pub chain-returns-in-Break-left-2 : need.chain-returns-in-Break-left-2
 chain-returns-in-Break-left-2 t c =
@@ -97,8 +96,8 @@ chain-returns-in-Break-left-2 t c =
     let s = drop (c .args .at) b in
     rw (p .1, p .2)
     (joins-refused (c .in-Some .op) (c .skip-place .result) (c .loop-op .left) (c .in-Continue-right .right) (chained (c .args .level) (bracket (c .args .deep)) s) b (c .in-Break-left-2 .field-0 .0) (c .skip-place .ensures .inside)
-      (turn-many (c .args .level) (bracket (c .args .deep)) s b (c .loop-op .left) (c .in-Continue-right .right) (c .skip-place .result) (c .in-Some .op) (c .loop-op .inv) (c .skip-place .ensures .skipped) (c .in-Some .ensures tt .0) (c .in-Continue-right .ensures tt))
-      (c .in-Break-left-2 .ensures tt))
+    (turn-many (c .args .level) (bracket (c .args .deep)) s b (c .loop-op .left) (c .in-Continue-right .right) (c .skip-place .result) (c .in-Some .op) (c .loop-op .inv) (c .skip-place .ensures .skipped) (c .in-Some .ensures tt .0) (c .in-Continue-right .ensures tt))
+    (c .in-Break-left-2 .ensures tt))
 
 pub chain-loop-op-again : need.chain-loop-op-again
 chain-loop-op-again t c =
@@ -120,7 +119,7 @@ expression-returns-in-rest t c =
       is = expression-one (c .args .deep) (drop (c .args .at) b) (drop (c .skip-place .result) b) b (first .is) (c .skip-place .ensures .skipped) (c .in-rest .ensures tt);
       inside = first .inside;
       counted = first .counted;
-      few = first .few
+      few = first .few;
     }
 
 pub expression-returns-in-Break-right : need.expression-returns-in-Break-right
@@ -130,8 +129,8 @@ expression-returns-in-Break-right t c =
     let s = drop (c .args .at) b in
     rw (p .1, p .2)
     (hand-on (chained level.Sum (bracket (c .args .deep)) (drop (c .skip-place .result + 1) b)) (expression (c .args .deep) s) b (c .in-Break-right .field-0 .0)
-      (λ why rest is. two-bad (c .args .deep) s b (c .in-Continue-left .left) (c .in-Continue-left .left) (c .skip-place .result) (c .in-Some .op) (c .in-Continue-left .ensures tt) (c .skip-place .ensures .skipped) (c .in-Some .ensures tt .0) is)
-      (c .in-Break-right .ensures tt))
+    (λ why rest is. two-bad (c .args .deep) s b (c .in-Continue-left .left) (c .in-Continue-left .left) (c .skip-place .result) (c .in-Some .op) (c .in-Continue-left .ensures tt) (c .skip-place .ensures .skipped) (c .in-Some .ensures tt .0) is)
+    (c .in-Break-right .ensures tt))
 
 pub expression-returns-in-Break-both : need.expression-returns-in-Break-both
 expression-returns-in-Break-both t c =
@@ -140,16 +139,15 @@ expression-returns-in-Break-both t c =
     let s = drop (c .args .at) b in
     rw (p .1, p .2)
     (joins-refused (c .in-Some .op) (c .skip-place .result) (c .in-Continue-left .left) (c .in-Continue-right .right) (expression (c .args .deep) s) b (c .in-Break-both .field-0 .0) (c .skip-place .ensures .inside)
-      (two-many (c .args .deep) s b (c .in-Continue-left .left) (c .in-Continue-right .right) (c .skip-place .result) (c .in-Some .op) (c .in-Continue-left .ensures tt) (c .skip-place .ensures .skipped) (c .in-Some .ensures tt .0) (c .in-Continue-right .ensures tt))
-      (c .in-Break-both .ensures tt))
+    (two-many (c .args .deep) s b (c .in-Continue-left .left) (c .in-Continue-right .right) (c .skip-place .result) (c .in-Some .op) (c .in-Continue-left .ensures tt) (c .skip-place .ensures .skipped) (c .in-Some .ensures tt .0) (c .in-Continue-right .ensures tt))
+    (c .in-Break-both .ensures tt))
 
 pub expression-returns-in-Some-comparison : need.expression-returns-in-Some-comparison
 expression-returns-in-Some-comparison t c =
     let b = c .args .b .now in
-    let both = c .in-Continue-both .both in
-    (
+    let both = c .in-Continue-both .both in (
       two-joined (c .args .deep) (drop (c .args .at) b) b (c .in-Continue-left .left) (c .in-Continue-right .right) (c .skip-place .result) (c .in-Some .op) (c .in-Continue-left .ensures tt) (c .skip-place .ensures .skipped) (c .in-Some .ensures tt .0) (c .in-Continue-right .ensures tt) both (c .in-Continue-both .ensures tt)
-        ∙ single-bad (exprOf (both .expr)) (drop (both .end) b) (drop (c .skip-end .result) b) b (c .skip-end .ensures .skipped) (c .in-Some-comparison .ensures tt .0),
+          ∙ single-bad (exprOf (both .expr)) (drop (both .end) b) (drop (c .skip-end .result) b) b (c .skip-end .ensures .skipped) (c .in-Some-comparison .ensures tt .0),
       c .skip-end .ensures .inside,
     )
 
@@ -162,11 +160,11 @@ expression-returns-in-None t c =
     let second = c .in-Continue-right .ensures tt in
     record {
       is =
-        two-joined (c .args .deep) (drop (c .args .at) b) b (c .in-Continue-left .left) (c .in-Continue-right .right) (c .skip-place .result) (c .in-Some .op) first (c .skip-place .ensures .skipped) (c .in-Some .ensures tt .0) second both j
+          two-joined (c .args .deep) (drop (c .args .at) b) b (c .in-Continue-left .left) (c .in-Continue-right .right) (c .skip-place .result) (c .in-Some .op) first (c .skip-place .ensures .skipped) (c .in-Some .ensures tt .0) second both j
           ∙ single-ok (exprOf (both .expr)) (drop (both .end) b) (drop (c .skip-end .result) b) b (c .skip-end .ensures .skipped) (c .in-None .ensures tt);
       inside = omega (arith, j .ends, second .inside);
       counted = joins-counted (c .in-Some .op) (c .skip-place .result) (c .in-Continue-left .left) (c .in-Continue-right .right) both (first .counted) (second .counted) j;
-      few = omega (arith, j .counts, j .few)
+      few = omega (arith, j .counts, j .few);
     }
 
 pub factor-returns-then-nots-eq0 : need.factor-returns-then-nots-eq0
@@ -182,8 +180,8 @@ factor-returns-in-Break-inner t c =
     let n = drop (c .skip-place .result + 1) b in
     rw (p .1, p .2)
     (hand-on (factor (bracket (c .args .deep)) (c .args .nots - 1) n) (factor (bracket (c .args .deep)) (c .args .nots) s) b (c .in-Break-inner .field-0 .0)
-      (λ why rest is. factor-not (bracket (c .args .deep)) (c .args .nots) s (drop (c .skip-place .result) b) n (c .skip-place .ensures .skipped) (drop-drop 1 (c .skip-place .result) b) (c .if-nots-eq0 .left) (sym (c .if-is .ensures tt .value)) ∙ after-bad _ (λ a rest. negate (drop (c .skip-place .result) b) a rest) is)
-      (c .in-Break-inner .ensures tt))
+    (λ why rest is. factor-not (bracket (c .args .deep)) (c .args .nots) s (drop (c .skip-place .result) b) n (c .skip-place .ensures .skipped) (drop-drop 1 (c .skip-place .result) b) (c .if-nots-eq0 .left) (sym (c .if-is .ensures tt .value)) ∙ after-bad _ (λ a rest. negate (drop (c .skip-place .result) b) a rest) is)
+    (c .in-Break-inner .ensures tt))
 
 pub factor-returns-then-is : need.factor-returns-then-is
 factor-returns-then-is t c =

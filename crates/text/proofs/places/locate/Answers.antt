@@ -16,18 +16,16 @@ loop-i-again c =
     let text = c .args .text .now in
     let inside : c .loop-i .i < min (c .args .at) (length text) = omega (arith, c .loop-i-test .taken, c .min-i-end .ensures) in
     elim (c .if-text-i-eq10 .came) [
-      then-text-i-eq10 w ↦
-        (
-          c .loop-i .inv .0 ∙ new-line text (c .args .at) (c .loop-i .i) (c .loop-i .line) (c .loop-i .column) inside (w .if-text-i-eq10 .taken) ∙ same (drop (c .loop-i .i + 1) (take (c .args .at) text)) (sym (w .line-is)) (sym (w .column-is)),
-          omega (arith, w .line-is),
-          omega (arith, w .column-is),
-        )
-    | else-text-i-eq10 w ↦
-        (
-          c .loop-i .inv .0 ∙ same-line text (c .args .at) (c .loop-i .i) (c .loop-i .line) (c .loop-i .column) inside (w .if-text-i-eq10 .left) ∙ same (drop (c .loop-i .i + 1) (take (c .args .at) text)) (sym (w .line-is)) (sym (w .column-is)),
-          omega (arith, w .line-is),
-          omega (arith, w .column-is),
-        )
+      | then-text-i-eq10 w ↦ (
+        c .loop-i .inv .0 ∙ new-line text (c .args .at) (c .loop-i .i) (c .loop-i .line) (c .loop-i .column) inside (w .if-text-i-eq10 .taken) ∙ same (drop (c .loop-i .i + 1) (take (c .args .at) text)) (sym (w .line-is)) (sym (w .column-is)),
+        omega (arith, w .line-is),
+        omega (arith, w .column-is),
+      )
+      | else-text-i-eq10 w ↦ (
+        c .loop-i .inv .0 ∙ same-line text (c .args .at) (c .loop-i .i) (c .loop-i .line) (c .loop-i .column) inside (w .if-text-i-eq10 .left) ∙ same (drop (c .loop-i .i + 1) (take (c .args .at) text)) (sym (w .line-is)) (sym (w .column-is)),
+        omega (arith, w .line-is),
+        omega (arith, w .column-is),
+      )
     ]
 
 pub returns : need.returns

@@ -59,12 +59,12 @@ returns-in-Break-named c =
     let bs = drop (c .args .at) b in
     rw (p .1, p .2)
     (hand-on (aggregate (drop (c .in-Continue-size .size .end) b)) (stage bs) b (c .in-Break-named .field-0 .0)
-      (λ why rest is. named-bad bs (c .in-Continue-keep .ensures tt .is) (c .in-Continue-key .ensures tt .is) (c .in-Continue-value .ensures tt .is) (c .in-Continue-size .ensures tt .is) is)
-      (c .in-Break-named .ensures tt))
+    (λ why rest is. named-bad bs (c .in-Continue-keep .ensures tt .is) (c .in-Continue-key .ensures tt .is) (c .in-Continue-value .ensures tt .is) (c .in-Continue-size .ensures tt .is) is)
+    (c .in-Break-named .ensures tt))
 
 pub returns : need.returns
 returns c =
     record {
       is = stage-got (drop (c .args .at) (c .args .b .now)) (c .in-Continue-keep .ensures tt .is) (c .in-Continue-key .ensures tt .is) (c .in-Continue-value .ensures tt .is) (c .in-Continue-size .ensures tt .is) (c .in-Continue-named .ensures tt .is);
-      inside = c .in-Continue-named .ensures tt .inside
+      inside = c .in-Continue-named .ensures tt .inside;
     }

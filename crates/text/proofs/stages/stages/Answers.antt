@@ -19,8 +19,7 @@ pub returns-then-len-ge-MOST : need.returns-then-len-ge-MOST
 returns-then-len-ge-MOST c =
     let b = c .args .b .now in
     let before = map stageOf (vec-items (c .loop-heap .all)) in
-    let many : length before ≡ vec-len (c .loop-heap .all) = length-map (vec-items (c .loop-heap .all)) stageOf ∙ sym (c .loop-heap .all .ok .0) in
-    (
+    let many : length before ≡ vec-len (c .loop-heap .all) = length-map (vec-items (c .loop-heap .all)) stageOf ∙ sym (c .loop-heap .all .ok .0) in (
       too-many (stages 8 [] (drop (c .args .at) b)) b (c .loop-heap .place) before (c .loop-heap .inv) (omega (arith, c .if-len-ge-MOST .taken, c .len .ensures)) (sym (c .loop-heap-test .ensures tt .value)),
       c .loop-heap .inv .inside,
     )
@@ -34,8 +33,8 @@ returns-in-Break-next c =
     let few : length before < 8 = omega (arith, c .if-len-ge-MOST .left, c .len .ensures) in
     rw (p .1, p .2)
     (hand-on (stage (drop (c .loop-heap .place + 1) b)) (stages 8 [] (drop (c .args .at) b)) b (c .in-Break-next .field-0 .0)
-      (λ why rest is. stage-bad (stages 8 [] (drop (c .args .at) b)) b (c .loop-heap .place) before (c .loop-heap .inv) few (sym (c .loop-heap-test .ensures tt .value)) is)
-      (c .in-Break-next .ensures tt))
+    (λ why rest is. stage-bad (stages 8 [] (drop (c .args .at) b)) b (c .loop-heap .place) before (c .loop-heap .inv) few (sym (c .loop-heap-test .ensures tt .value)) is)
+    (c .in-Break-next .ensures tt))
 
 pub loop-heap-again : need.loop-heap-again
 loop-heap-again c =
@@ -53,10 +52,9 @@ pub returns-then-place-b : need.returns-then-place-b
 returns-then-place-b c =
     let b = c .args .b .now in
     let before = map stageOf (vec-items (c .loop-heap .all)) in
-    let many : length before ≡ vec-len (c .loop-heap .all) = length-map (vec-items (c .loop-heap .all)) stageOf ∙ sym (c .loop-heap .all .ok .0) in
-    (
+    let many : length before ≡ vec-len (c .loop-heap .all) = length-map (vec-items (c .loop-heap .all)) stageOf ∙ sym (c .loop-heap .all .ok .0) in (
       no-semicolon (stages 8 [] (drop (c .args .at) b)) b (c .loop-heap .place) before (c .loop-heap .inv) (sym (c .loop-heap-test .ensures tt .value))
-      (elim (c .then-place-b .came) [ then-place-b·by·then-place-b w ↦ inl (w .if-place-b .taken) | then-place-b·by·else-place-b·then-is-empty w ↦ inr (many ∙ eqb-true _ _ (sym (w .if-is-empty .ensures tt))) ]),
+          (elim (c .then-place-b .came) [ then-place-b·by·then-place-b w ↦ inl (w .if-place-b .taken) | then-place-b·by·else-place-b·then-is-empty w ↦ inr (many ∙ eqb-true _ _ (sym (w .if-is-empty .ensures tt))) ]),
       c .loop-heap .inv .inside,
     )
 

@@ -1,0 +1,3 @@
+//! The proved codec, called through its static library, beside the plain Rust one.
+pub mod proved;
+pub mod seeded;

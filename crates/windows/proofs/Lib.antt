@@ -1,0 +1,4 @@
+mod Loops
+mod Stage
+mod Table
+mod Values
