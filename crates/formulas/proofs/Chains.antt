@@ -1,34 +1,30 @@
 -- Steps of the readers of expressions, from what each call answered. Assumes nothing.
-use mathlib.Core.Path.{_≡_, refl, sym, ap, subst, _∙_}
-use mathlib.Core.Bool.{Bool, true, false, cond}
+use mathlib.Core.Path.{_≡_, sym, ap, subst, _∙_}
 use mathlib.Core.Logic.{_≢_}
 use mathlib.Core.List.{List}
-use Prim.Native.Nat.{ℕ, zero, suc, _+_, _-_, _<_, _≤_}
+use Prim.Native.Nat.{ℕ, _+_, _-_, _<_, _≤_}
 use native.Mathlib.Omega.{arith}
-use lib.Dec.{leb}
 use lib.ListN.{length, drop}
 use lib.Seq.{drop-drop}
 use Rattle.std.proofs.shelf.Tests.{lt-leb, le-leb}
-use Rattle.std.specs.declared.option.Option.{Option}
-use Rattle.std.specs.declared.option.Option.the-variants.{Some, None}
+use Rattle.std.specs.declared.option.Option.the-variants.{Some}
 use Rattle.std.specs.declared.result.Result.{Result}
 use Rattle.std.specs.declared.result.Result.the-variants.{Ok, Err}
 use Rattle.streams.specs.Meaning as spec
 use Rattle.streams.specs.Calls.{parts}
 use Rattle.plans.specs.Model.{exprOf}
 use Rattle.grammar.specs.declared.operators.Operator.{Operator}
-use Rattle.grammar.specs.declared.operators.Operator.the-variants as op
 use Rattle.grammar.specs.declared.operators.Level.{Level}
 use Rattle.grammar.specs.declared.operators.Level.the-variants as level
 use Rattle.grammar.specs.declared.refusals.Why.{Why}
-use Rattle.grammar.specs.declared.refusals.Why.the-variants.{Parts, Chained, Deep, Close}
+use Rattle.grammar.specs.declared.refusals.Why.the-variants.{Parts}
 use Rattle.grammar.proofs.Readers.{after-got, after-bad, joined-parts, more-turn, expression-two}
-use Rattle.grammar.specs.Reading.{Got, got, bad, Reader, after, skip, next, is, joined, operator, comparison, join, negate, more, chain, chained, operand, factor, leaf, compared, single, closed, inBrackets, bracket, expression}
+use Rattle.grammar.specs.Reading.{Got, got, bad, Reader, after, skip, is, joined, operator, comparison, join, negate, more, chain, chained, operand, single, bracket, expression}
 use Rattle.tokens.specs.declared.faults.Fault.{Fault}
 use Rattle.tokens.specs.declared.faults.Fault.the-variants.{Memory, Refused}
 use Rattle.tokens.specs.Says.{Refuses}
 use Rattle.formulas.specs.declared.parts.Part.{Part}
-use Rattle.formulas.specs.Says.{Parted, SaysPart, Built, TooMany, Joins, Negates}
+use Rattle.formulas.specs.Says.{Parted, SaysPart, TooMany, Joins, Negates}
 
 -- ---- a chain in which `p` was read so far: as many turns are left as parts may come
 pub record Going (l : Level) (inner : Reader spec.Expr) (bs b : List ℕ) (p : Part) : Type 0 where
@@ -80,7 +76,7 @@ negates-says at l g b (Ok p) e h k c j =
       is = e ∙ negate-ok l (drop at b) (drop (l .end) b) c (j .few) ∙ ap (λ x. got x (drop (l .end) b)) (sym (j .is)) ∙ ap (λ n. got (exprOf (p .expr)) (drop n b)) (sym (j .ends));
       inside = omega (arith, j .ends);
       counted = j .counts ∙ ap (λ n. 1 + n) c ∙ ap parts (sym (j .is));
-      few = omega (arith, j .counts, j .few)
+      few = omega (arith, j .counts, j .few);
     }
 negates-says at l g b (Err f) e h k c j = negates-refused at l g b f h (λ m. e ∙ negate-bad l (drop at b) (drop (l .end) b) c m) j
 
@@ -90,8 +86,8 @@ module _ (l : Level) (inner : Reader spec.Expr) (bs b : List ℕ) (left right : 
   going-on =
       let left-over : going .turns ≢ 0 = omega (arith, going .enough, going .few) in
       going .is
-        ∙ more-turn l (operand l inner) (going .turns) (exprOf (left .expr)) (drop (left .end) b) (drop place b) skipped o left-over found
-        ∙ ap (λ n. after (operand l inner n) (λ y rest. after (join o (drop place b) (exprOf (left .expr)) y rest) (λ c end. more l (operand l inner) (going .turns - 1) c end))) (drop-drop 1 place b)
+      ∙ more-turn l (operand l inner) (going .turns) (exprOf (left .expr)) (drop (left .end) b) (drop place b) skipped o left-over found
+      ∙ ap (λ n. after (operand l inner n) (λ y rest. after (join o (drop place b) (exprOf (left .expr)) y rest) (λ c end. more l (operand l inner) (going .turns - 1) c end))) (drop-drop 1 place b)
 
   pub turn-bad : {why : Why} {rest : List ℕ} → operand l inner (drop (place + 1) b) ≡ bad why rest → chained l inner bs ≡ bad why rest
   turn-bad e = going-on ∙ after-bad _ _ e
@@ -108,7 +104,7 @@ module _ (l : Level) (inner : Reader spec.Expr) (bs b : List ℕ) (left right : 
           is = going-on ∙ after-got _ _ (read .is) ∙ after-got _ _ (joins-ok o place left right p (drop place b) (drop (right .end) b) (going .counted) (read .counted) j) ∙ ap (λ n. more l (operand l inner) (going .turns - 1) (exprOf (p .expr)) (drop n b)) (sym (j .ends));
           inside = omega (arith, j .ends, read .inside);
           counted = joins-counted o place left right p (going .counted) (read .counted) j;
-          few = omega (arith, j .counts, j .few)
+          few = omega (arith, j .counts, j .few);
         }
 
 -- a comparison, likewise

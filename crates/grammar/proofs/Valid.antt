@@ -1,5 +1,5 @@
 -- What is read is within the limits. Assumes nothing.
-use mathlib.Core.Path.{_≡_, refl, sym, ap, subst, _∙_}
+use mathlib.Core.Path.{_≡_, refl, subst}
 use mathlib.Core.Bool.{Bool, true, false, cond, _&&_}
 use mathlib.Core.List.{List, [], _∷_, _++_}
 use Prim.Native.Nat.{ℕ, zero, suc, _+_, _-_, _*_, _<_, _≤_}
@@ -11,7 +11,7 @@ use Rattle.std.proofs.shelf.Tests.{cond-both, ltb-true, lt-ltb, leb-true, le-le
 use Rattle.std.specs.Text.{asciiDigit}
 use Rattle.std.specs.declared.option.Option.{Option}
 use Rattle.std.specs.declared.option.Option.the-variants.{Some, None}
-use Rattle.streams.specs.Meaning.{Expr, Num, Time, Key, Value, Not, Sum, Stage, Plan, top}
+use Rattle.streams.specs.Meaning.{Expr, Num, Key, Value, Sum, Stage, top}
 use Rattle.streams.specs.Calls.{parts, exprOk, fine, stageOk, every, planOk}
 use Rattle.grammar.specs.declared.operators.Operator.{Operator}
 use Rattle.grammar.specs.declared.operators.Operator.the-variants as op
@@ -54,9 +54,9 @@ limited-holds why low bs =
     after-holds (λ _. Unit {0}) _ (number bs) _ (any (number bs))
     (λ n rest _. cond-holds (λ n. (low ≤ n) × (n ≤ 1099511627776)) (leb low n && leb n 1099511627776) _ _ (λ e. let p = and-parts (leb low n) (leb n 1099511627776) e in (leb-true _ _ (p .0), leb-true _ _ (p .1))) (λ _. tt))
   where
-  any : (g : Got ℕ) → Holds (λ _. Unit {0}) g
-  any (got a rest) = tt
-  any (bad w rest) = tt
+    any : (g : Got ℕ) → Holds (λ _. Unit {0}) g
+    any (got a rest) = tt
+    any (bad w rest) = tt
 
 -- ---- expressions
 abbrev Fine : Expr → Type 0
@@ -85,7 +85,7 @@ unfolding leaf parts exprOk
 leaf-holds bs =
     cond-holds Fine (isDigit bs) _ _ (λ _. after-holds (λ n. n < top) Fine (digits bs 0 bs) _ (digits-hold bs 0 bs (omega arith)) (λ n rest h. (omega arith, lt-ltb n top h)))
     (λ _. cond-holds Fine (isWord (codes "time") bs) _ _ (λ _. (omega arith, refl))
-      (λ _. cond-holds Fine (isWord (codes "key") bs) _ _ (λ _. (omega arith, refl)) (λ _. cond-holds Fine (isWord (codes "value") bs) _ _ (λ _. (omega arith, refl)) (λ _. tt))))
+    (λ _. cond-holds Fine (isWord (codes "key") bs) _ _ (λ _. (omega arith, refl)) (λ _. cond-holds Fine (isWord (codes "value") bs) _ _ (λ _. (omega arith, refl)) (λ _. tt))))
 
 more-holds : (l : Level) (sub : Reader Expr) → AllFine sub → (turns : ℕ) (a : Expr) → Fine a → AllFine (more l sub turns a)
 unfolding more
@@ -93,7 +93,7 @@ more-holds l sub s zero a h bs = tt
 more-holds l sub s (suc turns) a h bs =
     option-holds Fine (operator l (skip bs)) _ _ h
     (λ o. after-holds Fine Fine (sub (next (skip bs))) _ (s (next (skip bs)))
-      (λ b rest k. after-holds Fine Fine (join o (skip bs) a b rest) _ (join-holds o (skip bs) a b rest h k) (λ c end m. more-holds l sub s turns c m end)))
+    (λ b rest k. after-holds Fine Fine (join o (skip bs) a b rest) _ (join-holds o (skip bs) a b rest h k) (λ c end m. more-holds l sub s turns c m end)))
 
 chain-holds : (l : Level) (sub : Reader Expr) → AllFine sub → AllFine (chain l sub)
 unfolding chain
@@ -115,9 +115,9 @@ unfolding compared single
 compared-holds sum s bs =
     after-holds Fine Fine (sum bs) _ (s bs)
     (λ a rest h.
-      option-holds Fine (comparison (skip rest)) _ _ h
-      (λ o. after-holds Fine Fine (sum (next (skip rest))) _ (s (next (skip rest)))
-        (λ b end k. after-holds Fine Fine (join o (skip rest) a b end) single (join-holds o (skip rest) a b end h k) (λ c last m. option-holds Fine (comparison (skip last)) _ _ m (λ _. tt)))))
+    option-holds Fine (comparison (skip rest)) _ _ h
+    (λ o. after-holds Fine Fine (sum (next (skip rest))) _ (s (next (skip rest)))
+    (λ b end k. after-holds Fine Fine (join o (skip rest) a b end) single (join-holds o (skip rest) a b end h k) (λ c last m. option-holds Fine (comparison (skip last)) _ _ m (λ _. tt)))))
 
 closed-holds : (a : Expr) (rest : List ℕ) → Fine a → Holds Fine (closed a rest)
 unfolding closed
@@ -153,13 +153,13 @@ unfolding stage parts exprOk
 stage-holds bs =
     after-holds Fine _ (part (codes "keep") (Num 1) bs) _ (part-holds (codes "keep") (Num 1) (omega arith, refl) bs)
     (λ k r hk. after-holds Fine _ (part (codes "key") Key r) _ (part-holds (codes "key") Key (omega arith, refl) r)
-      (λ y s hy. after-holds Fine _ (part (codes "value") Value s) _ (part-holds (codes "value") Value (omega arith, refl) s)
-        (λ v t hv. after-holds (λ n. (1 ≤ n) × (n ≤ 1099511627776)) _ (window t) _ (window-holds t)
-          (λ z u hz. after-holds (λ _. Unit {0}) _ (aggregate u) _ (any (aggregate u)) (λ a rest _. stage-is (record { keep' = k; key = y; value = v; size = z; sum = a }) hk hy hv (hz .0) (hz .1))))))
+    (λ y s hy. after-holds Fine _ (part (codes "value") Value s) _ (part-holds (codes "value") Value (omega arith, refl) s)
+    (λ v t hv. after-holds (λ n. (1 ≤ n) × (n ≤ 1099511627776)) _ (window t) _ (window-holds t)
+    (λ z u hz. after-holds (λ _. Unit {0}) _ (aggregate u) _ (any (aggregate u)) (λ a rest _. stage-is (record { keep' = k; key = y; value = v; size = z; sum = a }) hk hy hv (hz .0) (hz .1))))))
   where
-  any : (g : Got Sum) → Holds (λ _. Unit {0}) g
-  any (got a rest) = tt
-  any (bad w rest) = tt
+    any : (g : Got Sum) → Holds (λ _. Unit {0}) g
+    any (got a rest) = tt
+    any (bad w rest) = tt
 
 record Some-stages (sts : List Stage) : Type 0 where
   few : length sts ≤ 8
@@ -180,7 +180,7 @@ stages-hold zero before bs h k = cond-holds Some-stages (is 59 (skip bs)) _ _ (�
 stages-hold (suc room) before bs h k =
     cond-holds Some-stages (is 59 (skip bs)) _ _
     (λ _. after-holds (λ s. stageOk s ≡ true) Some-stages (stage (next (skip bs))) _ (stage-holds (next (skip bs)))
-      (λ s rest m. stages-hold room (before ++ (s ∷ [])) rest (let n : length (before ++ (s ∷ [])) ≡ length before + 1 = length-append before (s ∷ []) in omega arith) (every-more before s k m)))
+    (λ s rest m. stages-hold room (before ++ (s ∷ [])) rest (let n : length (before ++ (s ∷ [])) ≡ length before + 1 = length-append before (s ∷ []) in omega arith) (every-more before s k m)))
     (λ _. stages-end before (skip bs) _ (omega arith) k)
 
 plan-holds : (bs : List ℕ) → Holds (λ p. planOk p ≡ true) (reading bs)
@@ -188,10 +188,10 @@ unfolding reading plan every
 plan-holds bs =
     cond-holds (λ p. planOk p ≡ true) (ltb 65536 (length bs)) _ _ (λ _. tt)
     (λ _. cond-holds (λ p. planOk p ≡ true) (isWord (codes "late") (skip bs)) _ _
-      (λ _. after-holds (λ n. (0 ≤ n) × (n ≤ 1099511627776)) _ (limited _ 0 (drop 4 (skip bs))) _ (limited-holds _ 0 _)
-        (λ n rest h. after-holds Some-stages _ (stages 8 [] rest) _ (stages-hold 8 [] rest (omega arith) refl)
-          (λ sts end k. and-from _ _ (and-from _ _ (and-from _ _ (le-leb _ _ (h .1)) (lt-ltb _ _ (k .some))) (le-leb _ _ (k .few))) (k .ok))))
-      (λ _. tt))
+    (λ _. after-holds (λ n. (0 ≤ n) × (n ≤ 1099511627776)) _ (limited _ 0 (drop 4 (skip bs))) _ (limited-holds _ 0 _)
+    (λ n rest h. after-holds Some-stages _ (stages 8 [] rest) _ (stages-hold 8 [] rest (omega arith) refl)
+    (λ sts end k. and-from _ _ (and-from _ _ (and-from _ _ (le-leb _ _ (h .1)) (lt-ltb _ _ (k .some))) (le-leb _ _ (k .few))) (k .ok))))
+    (λ _. tt))
 
 pub reads-valid : ReadsValid
 reads-valid text p rest e = subst (Holds (λ p. planOk p ≡ true)) e (plan-holds text)

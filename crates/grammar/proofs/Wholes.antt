@@ -1,28 +1,25 @@
 -- What is printed of a plan is read as that plan. Assumes nothing.
 use mathlib.Core.Path.{_≡_, refl, sym, ap, _∙_}
-use mathlib.Core.Bool.{Bool, true, false, cond, not, _||_, _&&_}
+use mathlib.Core.Bool.{Bool, true, false, not}
 use mathlib.Core.List.{List, [], _∷_, _++_, append-assoc, append-nil}
-use Prim.Native.Nat.{ℕ, zero, suc, _+_, _-_, _<_, _≤_}
+use Prim.Native.Nat.{ℕ, zero, suc, _+_, _<_, _≤_}
 use native.Mathlib.Omega.{arith}
 use lib.Chars.{codes}
-use lib.Dec.{ltb}
-use lib.ListN.{length, drop, length-append}
+use lib.ListN.{length, length-append}
 use lib.Seq.{drop-append-seam}
-use Rattle.std.proofs.shelf.Tests.{cond-both, cases-bool, lt-ltb, le-ltb, eqb-true, and-parts, false≢true}
+use Rattle.std.proofs.shelf.Tests.{cond-both, lt-ltb, le-ltb, eqb-true, and-parts, false≢true}
 use Rattle.std.specs.Written.{decimal}
-use Rattle.std.specs.declared.option.Option.the-variants.{None}
-use Rattle.streams.specs.Meaning.{Expr, Num, Time, Key, Value, Plus, Minus, Times, Quotient, Rest, Less, Same, Not, Sum, Count, Total, Least, Greatest, Stage, Plan, top}
-use Rattle.streams.specs.Calls.{parts, exprOk, stageOk, every, planOk}
-use Rattle.grammar.specs.declared.operators.Level.the-variants as level
+use Rattle.streams.specs.Meaning.{Expr, Num, Time, Key, Value, Plus, Minus, Times, Quotient, Rest, Less, Same, Not, Sum, Count, Total, Least, Greatest, Stage}
+use Rattle.streams.specs.Calls.{parts, exprOk, stageOk, every}
 use Rattle.grammar.specs.declared.refusals.Why.{Why}
 use Rattle.grammar.specs.declared.refusals.Why.the-variants.{Lateness, Size}
-use Rattle.grammar.specs.Reading.{Got, got, bad, after, blank, skip, is, isDigit, isLetter, isEnd, isWord, operator, comparison, limited, chained, expression, compared, bracket, part, window, aggregate, stage, stages, plan, reading}
+use Rattle.grammar.specs.Reading.{got, blank, skip, is, isDigit, isLetter, isEnd, isWord, operator, comparison, limited, compared, part, window, aggregate, stage, stages, plan, reading}
 use Rattle.grammar.specs.Printing.{shown, isOne, isKey, isValue, said, named, stageText, stagesText, printed}
 use Rattle.grammar.specs.Laws.{PrintReads}
 use Rattle.grammar.proofs.Places.{limited-in}
 use Rattle.grammar.proofs.Readers.{after-got}
 use Rattle.grammar.proofs.Back.{Ends, Closed, expression-back, expression-blank, digits-read}
-use Rattle.grammar.proofs.Sizes.{FineStage, stage-fine, FinePlan, plan-fine, print-fits}
+use Rattle.grammar.proofs.Sizes.{stage-fine, plan-fine, print-fits}
 
 -- ---- what stands for a part that is left out
 one-is : (e : Expr) → isOne e ≡ true → e ≡ Num 1
@@ -83,8 +80,8 @@ part-back word out e omitted y stands solid same few ok f =
     cond-both omitted _ _ (λ t. part word out (32 ∷ (t ++ y)) ≡ got e (32 ∷ y))
     (λ h. rw (f .begins, f .other) (ap (λ x. got x (32 ∷ y)) (sym (same h))))
     (λ _.
-      let all : (word ++ (32 ∷ (shown e ++ (32 ∷ [])))) ++ y ≡ word ++ (32 ∷ (shown e ++ (32 ∷ y))) = append-assoc word _ y ∙ ap (λ t. word ++ (32 ∷ t)) (append-assoc (shown e) (32 ∷ []) y) in
-      rw (all, solid, stands, drop-append-seam) (expression-blank 64 (shown e ++ (32 ∷ y)) ∙ expression-back e (32 ∷ y) few ok (f .closed)))
+    let all : (word ++ (32 ∷ (shown e ++ (32 ∷ [])))) ++ y ≡ word ++ (32 ∷ (shown e ++ (32 ∷ y))) = append-assoc word _ y ∙ ap (λ t. word ++ (32 ∷ t)) (append-assoc (shown e) (32 ∷ []) y) in
+    rw (all, solid, stands, drop-append-seam) (expression-blank 64 (shown e ++ (32 ∷ y)) ∙ expression-back e (32 ∷ y) few ok (f .closed)))
 
 module _ (word : List ℕ) where
   follows-in : (z : List ℕ) → isWord word (codes "in " ++ z) ≡ false → Follows word (codes "in " ++ z)
@@ -136,11 +133,11 @@ stage-back s rest ok ends =
     let keyed = said (codes "key") (isKey (s .key)) (s .key) ++ valued in
     let all : stageText s ++ rest ≡ said (codes "keep") (isOne (s .keep')) (s .keep') ++ keyed = simp append-assoc in
     ap (λ t. stage (32 ∷ t)) all
-      ∙ after-got _ _ (part-back (codes "keep") (Num 1) (s .keep') (isOne (s .keep')) keyed (λ _. refl) (λ _. refl) (one-is (s .keep')) (f .keep-few) (f .keep-ok) (follows-key (codes "keep") (isKey (s .key)) (s .key) valued (follows-value (codes "keep") (isValue (s .value)) (s .value) sized (follows-in (codes "keep") _ refl) (λ _. refl)) (λ _. refl)))
-      ∙ after-got _ _ (part-back (codes "key") Key (s .key) (isKey (s .key)) valued (λ _. refl) (λ _. refl) (key-is (s .key)) (f .key-few) (f .key-ok) (follows-value (codes "key") (isValue (s .value)) (s .value) sized (follows-in (codes "key") _ refl) (λ _. refl)))
-      ∙ after-got _ _ (part-back (codes "value") Value (s .value) (isValue (s .value)) sized (λ _. refl) (λ _. refl) (value-is (s .value)) (f .value-few) (f .value-ok) (follows-in (codes "value") _ refl))
-      ∙ after-got _ _ (window-back (s .size) last (f .low) (f .high) (blank-ends _))
-      ∙ after-got _ _ (aggregate-back (s .sum) rest ends)
+    ∙ after-got _ _ (part-back (codes "keep") (Num 1) (s .keep') (isOne (s .keep')) keyed (λ _. refl) (λ _. refl) (one-is (s .keep')) (f .keep-few) (f .keep-ok) (follows-key (codes "keep") (isKey (s .key)) (s .key) valued (follows-value (codes "keep") (isValue (s .value)) (s .value) sized (follows-in (codes "keep") _ refl) (λ _. refl)) (λ _. refl)))
+    ∙ after-got _ _ (part-back (codes "key") Key (s .key) (isKey (s .key)) valued (λ _. refl) (λ _. refl) (key-is (s .key)) (f .key-few) (f .key-ok) (follows-value (codes "key") (isValue (s .value)) (s .value) sized (follows-in (codes "key") _ refl) (λ _. refl)))
+    ∙ after-got _ _ (part-back (codes "value") Value (s .value) (isValue (s .value)) sized (λ _. refl) (λ _. refl) (value-is (s .value)) (f .value-few) (f .value-ok) (follows-in (codes "value") _ refl))
+    ∙ after-got _ _ (window-back (s .size) last (f .low) (f .high) (blank-ends _))
+    ∙ after-got _ _ (aggregate-back (s .sum) rest ends)
 
 stages-end : (ss : List Stage) → Ends (stagesText ss)
 unfolding stagesText isLetter isDigit

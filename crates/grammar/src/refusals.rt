@@ -1,4 +1,6 @@
 // Why a text is no plan, and where.
+ghost use mathlib.Core.Path.{_≡_};
+ghost use Rattle.grammar.specs.Reasons.{reason};
 use std::fmt;
 
 // What was expected, or which limit was passed.
@@ -37,7 +39,9 @@ pub impl fmt::Display for Why as WhyDisplay {
 
 impl Why {
     // What is said to whoever wrote the text.
-    pub fn said(self) -> &'static str {
+    pub fn said(self) -> &'static str
+        ensures { λ r. ⌜ now r ≡ reason self ⌝ }
+    {
         match self {
             Why::Long => "a plan has at most 65536 bytes",
             Why::Late => "expected `late`",

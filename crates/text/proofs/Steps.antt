@@ -1,6 +1,6 @@
 -- Steps of the readers of stages and plans, from what each call answered. Assumes nothing.
-use mathlib.Core.Path.{_≡_, refl, sym, ap, _∙_}
-use mathlib.Core.Bool.{Bool, true, false, cond, _&&_}
+use mathlib.Core.Path.{_≡_, refl, ap, _∙_}
+use mathlib.Core.Bool.{true, false, cond, _&&_}
 use mathlib.Core.Logic.{_⊎_, inl, inr, _≢_}
 use mathlib.Core.List.{List, [], _∷_, _++_}
 use Prim.Native.Nat.{ℕ, zero, suc, _+_, _-_, _<_, _≤_, min}
@@ -14,7 +14,7 @@ use Rattle.std.proofs.shelf.Tests.{lt-ltb, le-ltb, eq-eqb, ne-eqb, and-right}
 use Rattle.streams.specs.Meaning.{Expr, Num, Key, Value, Sum, Stage, Plan}
 use Rattle.grammar.specs.declared.refusals.Why.{Why}
 use Rattle.grammar.specs.declared.refusals.Why.the-variants.{Long, Late, Semicolon, Stages, Lateness}
-use Rattle.grammar.specs.Reading.{Got, got, bad, after, skip, next, is, isWord, isEnd, part, window, aggregate, stage, stages, expression, limited, plan, reading}
+use Rattle.grammar.specs.Reading.{Got, got, bad, after, skip, next, is, isWord, isEnd, part, window, aggregate, stage, stages, limited, plan, reading}
 use Rattle.grammar.proofs.Places.{front-at, none-at}
 use Rattle.grammar.proofs.Valid.{reads-valid}
 use Rattle.grammar.proofs.Wholes.{print-reads}

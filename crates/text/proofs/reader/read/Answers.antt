@@ -1,4 +1,4 @@
-use mathlib.Core.Path.{_≡_, refl, sym}
+use mathlib.Core.Path.{sym}
 use mathlib.Core.List.{[]}
 use native.Mathlib.Omega.{arith}
 use Prim.Native.Nat.{_+_}
@@ -31,10 +31,10 @@ returns-in-Break-late c =
     let b = c .args .text .now in
     let n = drop (c .skip-place .result + 4) b in
     let t =
-        told b (Err (c .in-Break-late .field-0 .0))
-        (hand-on (limited Lateness 0 n) (reading b) b (c .in-Break-late .field-0 .0)
-          (λ why rest is. late-bad b (drop (c .skip-place .result) b) (c .if-text-gt-LONGEST .left) (c .skip-place .ensures .skipped) n (drop-drop 4 (c .skip-place .result) b) (sym (c .if-not-is-word .ensures tt .value)) is)
-          (c .in-Break-late .ensures tt)) in
+    told b (Err (c .in-Break-late .field-0 .0))
+    (hand-on (limited Lateness 0 n) (reading b) b (c .in-Break-late .field-0 .0)
+    (λ why rest is. late-bad b (drop (c .skip-place .result) b) (c .if-text-gt-LONGEST .left) (c .skip-place .ensures .skipped) n (drop-drop 4 (c .skip-place .result) b) (sym (c .if-not-is-word .ensures tt .value)) is)
+    (c .in-Break-late .ensures tt)) in
     rw (p .1, p .2) (record { whole = t .whole; valid = t .valid; again = t .again })
 
 pub returns-in-Break-all : need.returns-in-Break-all
@@ -43,10 +43,10 @@ returns-in-Break-all c =
     let b = c .args .text .now in
     let n = drop (c .skip-place .result + 4) b in
     let t =
-        told b (Err (c .in-Break-all .field-0 .0))
-        (hand-on (stages 8 [] (drop (c .in-Continue-late .late .end) b)) (reading b) b (c .in-Break-all .field-0 .0)
-          (λ why rest is. stages-bad b (drop (c .skip-place .result) b) (c .if-text-gt-LONGEST .left) (c .skip-place .ensures .skipped) n (drop-drop 4 (c .skip-place .result) b) (sym (c .if-not-is-word .ensures tt .value)) (c .in-Continue-late .ensures tt .is) is)
-          (c .in-Break-all .ensures tt)) in
+    told b (Err (c .in-Break-all .field-0 .0))
+    (hand-on (stages 8 [] (drop (c .in-Continue-late .late .end) b)) (reading b) b (c .in-Break-all .field-0 .0)
+    (λ why rest is. stages-bad b (drop (c .skip-place .result) b) (c .if-text-gt-LONGEST .left) (c .skip-place .ensures .skipped) n (drop-drop 4 (c .skip-place .result) b) (sym (c .if-not-is-word .ensures tt .value)) (c .in-Continue-late .ensures tt .is) is)
+    (c .in-Break-all .ensures tt)) in
     rw (p .1, p .2) (record { whole = t .whole; valid = t .valid; again = t .again })
 
 pub returns : need.returns
