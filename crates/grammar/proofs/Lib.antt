@@ -4,3 +4,4 @@ pub mod Back
 pub mod Valid
 pub mod Sizes
 pub mod Wholes
+pub mod Fewest

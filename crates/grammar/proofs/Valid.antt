@@ -23,7 +23,7 @@ use Rattle.grammar.specs.Laws.{ReadsValid}
 use Rattle.grammar.proofs.Readers.{joined-parts}
 
 -- P holds of what was read, if anything was
-abbrev Holds : {A : Type 0} → (A → Type 0) → Got A → Type 0
+abbrev pub Holds : {A : Type 0} → (A → Type 0) → Got A → Type 0
 Holds P (got a rest) = P a
 Holds P (bad why rest) = Unit {0}
 
@@ -40,7 +40,7 @@ option-holds P None x f h k = h
 option-holds P (Some b) x f h k = k b
 
 -- ---- numbers
-digits-hold : (start : List ℕ) (n : ℕ) (bs : List ℕ) → n < top → Holds (λ m. m < top) (digits start n bs)
+pub digits-hold : (start : List ℕ) (n : ℕ) (bs : List ℕ) → n < top → Holds (λ m. m < top) (digits start n bs)
 unfolding digits
 digits-hold start n [] h = h
 digits-hold start n (c ∷ cs) h =
