@@ -1,6 +1,7 @@
 // Why a text is no plan, and where.
 ghost use mathlib.Core.Path.{_≡_};
 ghost use Rattle.grammar.specs.Reasons.{reason};
+ghost use Rattle.std.specs.declared.option.Option.the-variants.{Some};
 use std::fmt;
 
 // What was expected, or which limit was passed.
@@ -32,6 +33,8 @@ pub struct Refusal {
 }
 
 pub impl fmt::Display for Why as WhyDisplay {
+    ghost shown = { λ w. Some (reason w) };
+
     fn fmt<W: fmt::Write>(&self, f: &mut fmt::Formatter<W>) -> fmt::Result {
         f.write_str(self.said())
     }
