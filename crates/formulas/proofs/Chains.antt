@@ -1,34 +1,30 @@
 -- Steps of the readers of expressions, from what each call answered. Assumes nothing.
-use mathlib.Core.Path.{_≡_, refl, sym, ap, subst, _∙_}
-use mathlib.Core.Bool.{Bool, true, false, cond}
+use mathlib.Core.Path.{_≡_, sym, ap, subst, _∙_}
 use mathlib.Core.Logic.{_≢_}
 use mathlib.Core.List.{List}
-use Prim.Native.Nat.{ℕ, zero, suc, _+_, _-_, _<_, _≤_}
+use Prim.Native.Nat.{ℕ, _+_, _-_, _<_, _≤_}
 use native.Mathlib.Omega.{arith}
-use lib.Dec.{leb}
 use lib.ListN.{length, drop}
 use lib.Seq.{drop-drop}
 use Rattle.std.proofs.shelf.Tests.{lt-leb, le-leb}
-use Rattle.std.specs.declared.option.Option.{Option}
-use Rattle.std.specs.declared.option.Option.the-variants.{Some, None}
+use Rattle.std.specs.declared.option.Option.the-variants.{Some}
 use Rattle.std.specs.declared.result.Result.{Result}
 use Rattle.std.specs.declared.result.Result.the-variants.{Ok, Err}
 use Rattle.streams.specs.Meaning as spec
 use Rattle.streams.specs.Calls.{parts}
 use Rattle.plans.specs.Model.{exprOf}
 use Rattle.grammar.specs.declared.operators.Operator.{Operator}
-use Rattle.grammar.specs.declared.operators.Operator.the-variants as op
 use Rattle.grammar.specs.declared.operators.Level.{Level}
 use Rattle.grammar.specs.declared.operators.Level.the-variants as level
 use Rattle.grammar.specs.declared.refusals.Why.{Why}
-use Rattle.grammar.specs.declared.refusals.Why.the-variants.{Parts, Chained, Deep, Close}
+use Rattle.grammar.specs.declared.refusals.Why.the-variants.{Parts}
 use Rattle.grammar.proofs.Readers.{after-got, after-bad, joined-parts, more-turn, expression-two}
-use Rattle.grammar.specs.Reading.{Got, got, bad, Reader, after, skip, next, is, joined, operator, comparison, join, negate, more, chain, chained, operand, factor, leaf, compared, single, closed, inBrackets, bracket, expression}
+use Rattle.grammar.specs.Reading.{Got, got, bad, Reader, after, skip, is, joined, operator, comparison, join, negate, more, chain, chained, operand, single, bracket, expression}
 use Rattle.tokens.specs.declared.faults.Fault.{Fault}
 use Rattle.tokens.specs.declared.faults.Fault.the-variants.{Memory, Refused}
 use Rattle.tokens.specs.Says.{Refuses}
 use Rattle.formulas.specs.declared.parts.Part.{Part}
-use Rattle.formulas.specs.Says.{Parted, SaysPart, Built, TooMany, Joins, Negates}
+use Rattle.formulas.specs.Says.{Parted, SaysPart, TooMany, Joins, Negates}
 
 -- ---- a chain in which `p` was read so far: as many turns are left as parts may come
 pub record Going (l : Level) (inner : Reader spec.Expr) (bs b : List ℕ) (p : Part) : Type 0 where

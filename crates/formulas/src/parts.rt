@@ -12,6 +12,7 @@ use grammar::operators::Operator;
 use grammar::refusals::Refusal;
 use grammar::refusals::Why;
 use plans::exprs::Expr;
+use plans::exprs::MOST_PARTS;
 use std::alloc::Global;
 use tokens::digits;
 use tokens::faults::Fault;
@@ -30,7 +31,7 @@ pub struct Part {
 }
 
 // How many parts an expression may have.
-const MOST: usize = 64;
+const MOST: usize = MOST_PARTS as usize;
 
 // The operator of a sum or of a product at `at`.
 pub(crate) fn operator(b: &[u8], at: usize, level: Level) -> Option<Operator>

@@ -1,13 +1,12 @@
 -- What is printed of an expression is read as that expression. Assumes nothing.
-use mathlib.Core.Path.{_≡_, refl, sym, ap, subst, _∙_}
-use mathlib.Core.Bool.{Bool, true, false, cond, not, _||_}
+use mathlib.Core.Path.{_≡_, refl, ap, _∙_}
+use mathlib.Core.Bool.{true, false}
 use mathlib.Core.Logic.{_≢_}
 use mathlib.Core.List.{List, [], _∷_, _++_, append-assoc}
 use Prim.Native.Nat.{ℕ, zero, suc, _+_, _-_, _*_, _/_, _%_, _^_, _<_, _≤_}
 use native.Mathlib.Omega.{arith}
 use lib.Chars.{codes}
 use lib.Dec.{ltb, leb}
-use lib.ListN.{drop}
 use Rattle.std.proofs.shelf.Decimals.{decimal-by-steps}
 use Rattle.std.proofs.shelf.Tests.{cond-both, ltb-true, ltb-false, lt-ltb, le-leb, and-parts}
 use Rattle.std.proofs.shelf.Ways.{tells}
@@ -20,7 +19,7 @@ use Rattle.grammar.specs.declared.operators.Operator.{Operator}
 use Rattle.grammar.specs.declared.operators.Operator.the-variants as op
 use Rattle.grammar.specs.declared.operators.Level.{Level}
 use Rattle.grammar.specs.declared.operators.Level.the-variants as level
-use Rattle.grammar.specs.Reading.{Got, got, bad, Reader, after, blank, letter, skip, is, isDigit, isLetter, isWord, digits, joined, operator, comparison, join, negate, more, chain, chained, operand, factor, leaf, compared, single, closed, inBrackets, bracket, expression}
+use Rattle.grammar.specs.Reading.{got, Reader, after, blank, letter, skip, is, isDigit, isLetter, isWord, digits, joined, operator, comparison, join, negate, more, chain, chained, operand, factor, leaf, compared, single, closed, bracket, expression}
 use Rattle.grammar.specs.Printing.{bond, within, pair, shown}
 use Rattle.grammar.proofs.Places.{digits-done}
 use Rattle.grammar.proofs.Readers.{after-got, parts-some, joined-parts, more-none, more-turn, chained-got, operand-sum, operand-product, factor-not, factor-bracket, bracket-in, expression-one, expression-two}
@@ -73,6 +72,11 @@ operand-blank level.Sum inner bs = ap (λ g. after g (λ a rest. more level.Prod
 chained-blank : (l : Level) (inner : Reader Expr) (bs : List ℕ) → chained l inner (32 ∷ bs) ≡ chained l inner bs
 unfolding chained chain
 chained-blank l inner bs = ap (λ g. after g (λ a rest. more l (operand l inner) 64 a rest)) (operand-blank l inner bs)
+
+pub expression-blank : (deep : ℕ) (bs : List ℕ) → expression deep (32 ∷ bs) ≡ expression deep bs
+unfolding expression compared
+expression-blank zero bs = rw (chained-blank level.Sum _ bs)
+expression-blank (suc deep) bs = rw (chained-blank level.Sum _ bs)
 
 -- ---- chains
 module _ (l : Level) (inner : Reader Expr) where

@@ -14,7 +14,7 @@ use Rattle.streams.specs.Meaning.{top}
 use Rattle.grammar.specs.declared.refusals.Why.{Why}
 use Rattle.grammar.specs.declared.refusals.Why.the-variants.{Large, Joined, Number}
 use Rattle.std.specs.Text.{asciiDigit}
-use Rattle.grammar.specs.Reading.{Got, got, bad, letter, skip, is, isDigit, isLetter, isEnd, isWord, blank, after, digits, number, limited}
+use Rattle.grammar.specs.Reading.{got, bad, letter, skip, is, isDigit, isLetter, isWord, blank, after, digits, number, limited}
 
 pub front-at : (xs : List ℕ) (i : ℕ) → i < length xs → drop i xs ≡ getD xs i 0 ∷ drop (i + 1) xs
 front-at xs i h = rw (add-one, drop-cons xs i 0)

@@ -1,2 +1,4 @@
 pub mod Reading
 pub mod Printing
+pub mod Reasons
+pub mod Laws

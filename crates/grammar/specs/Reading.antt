@@ -1,7 +1,6 @@
 -- Which plan a text is, or where and why it is none: docs/PLANS.md as a function on bytes.
 -- A reader takes the bytes from its place to the end of the text. It gives what it read with the bytes behind that, or
 -- the reason for a refusal with the bytes from the refused place on. Assumes nothing.
-use mathlib.Core.Path.{_≡_}
 use mathlib.Core.Bool.{Bool, true, false, cond, _&&_, _||_, not}
 use mathlib.Core.List.{List, [], _∷_, _++_}
 use Prim.Native.Nat.{ℕ, zero, suc, _+_, _-_, _*_}

@@ -1,4 +1,7 @@
 // Why a text is no plan, and where.
+ghost use mathlib.Core.Path.{_≡_};
+ghost use Rattle.grammar.specs.Reasons.{reason};
+ghost use Rattle.std.specs.declared.option.Option.the-variants.{Some};
 use std::fmt;
 
 // What was expected, or which limit was passed.
@@ -30,6 +33,8 @@ pub struct Refusal {
 }
 
 pub impl fmt::Display for Why as WhyDisplay {
+    ghost shown = { λ w. Some (reason w) };
+
     fn fmt<W: fmt::Write>(&self, f: &mut fmt::Formatter<W>) -> fmt::Result {
         f.write_str(self.said())
     }
@@ -37,7 +42,9 @@ pub impl fmt::Display for Why as WhyDisplay {
 
 impl Why {
     // What is said to whoever wrote the text.
-    pub fn said(self) -> &'static str {
+    pub fn said(self) -> &'static str
+        ensures { λ r. ⌜ now r ≡ reason self ⌝ }
+    {
         match self {
             Why::Long => "a plan has at most 65536 bytes",
             Why::Late => "expected `late`",

@@ -1,6 +1,6 @@
 -- Steps of the readers of stages and plans, from what each call answered. Assumes nothing.
-use mathlib.Core.Path.{_≡_, refl, sym, ap, _∙_}
-use mathlib.Core.Bool.{Bool, true, false, cond, _&&_}
+use mathlib.Core.Path.{_≡_, refl, ap, _∙_}
+use mathlib.Core.Bool.{true, false, cond, _&&_}
 use mathlib.Core.Logic.{_⊎_, inl, inr, _≢_}
 use mathlib.Core.List.{List, [], _∷_, _++_}
 use Prim.Native.Nat.{ℕ, zero, suc, _+_, _-_, _<_, _≤_, min}
@@ -14,9 +14,18 @@ use Rattle.std.proofs.shelf.Tests.{lt-ltb, le-ltb, eq-eqb, ne-eqb, and-right}
 use Rattle.streams.specs.Meaning.{Expr, Num, Key, Value, Sum, Stage, Plan}
 use Rattle.grammar.specs.declared.refusals.Why.{Why}
 use Rattle.grammar.specs.declared.refusals.Why.the-variants.{Long, Late, Semicolon, Stages, Lateness}
-use Rattle.grammar.specs.Reading.{Got, got, bad, after, skip, next, is, isWord, isEnd, part, window, aggregate, stage, stages, expression, limited, plan, reading}
+use Rattle.grammar.specs.Reading.{Got, got, bad, after, skip, next, is, isWord, isEnd, part, window, aggregate, stage, stages, limited, plan, reading}
 use Rattle.grammar.proofs.Places.{front-at, none-at}
+use Rattle.grammar.proofs.Valid.{reads-valid}
+use Rattle.grammar.proofs.Wholes.{print-reads}
+use Rattle.std.specs.declared.result.Result.{Result}
+use Rattle.std.specs.declared.result.Result.the-variants.{Ok, Err}
+use Rattle.plans.specs.declared.stages.Plan as code
+use Rattle.plans.specs.Model.{planOf}
+use Rattle.tokens.specs.declared.faults.Fault.{Fault}
+use Rattle.tokens.specs.declared.faults.Fault.the-variants.{Memory, Refused}
 use Rattle.text.specs.Position.{behind}
+use Rattle.text.specs.Says.{SaysPlan, Valid, ReadAgain}
 
 -- ---- a stage, part by part
 module _ (bs : List ℕ) where
@@ -147,3 +156,25 @@ unfolding behind
 behind-all text at i line column h =
     let over : length (take at text) ≤ i = simp length-take (omega arith) in
     rw (none-at (take at text) i over)
+
+-- ---- what the laws of the grammar say of an answer
+pub record Told (text : List ℕ) (r : Result code.Plan Fault) : Type 0 where
+  pub whole : SaysPlan (reading text) text r
+  pub valid : Valid r
+  pub again : ReadAgain text r
+
+valid-from : (text : List ℕ) (r : Result code.Plan Fault) → SaysPlan (reading text) text r → Valid r
+valid-from text (Ok p) h = reads-valid text (planOf p) [] h
+valid-from text (Err e) h = tt
+
+again-from : (text : List ℕ) (r : Result code.Plan Fault) → SaysPlan (reading text) text r → ReadAgain text r
+again-from text (Ok p) h q ok e = let read : reading text ≡ got q [] = ap reading e ∙ print-reads q ok in cc
+again-from text (Err Memory) h q ok e = refl
+again-from text (Err (Refused x)) h q ok e =
+    let read : reading text ≡ got q [] = ap reading e ∙ print-reads q ok in
+    let refused = h .0 in
+    let z : _≡_ {A = ℕ} 0 1 = cc in
+    absurd (omega arith)
+
+pub told : (text : List ℕ) (r : Result code.Plan Fault) → SaysPlan (reading text) text r → Told text r
+told text r h = record { whole = h; valid = valid-from text r h; again = again-from text r h }

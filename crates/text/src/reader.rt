@@ -1,7 +1,6 @@
 // Reading a plan.
-ghost use lib.ListN.{length};
 ghost use Rattle.grammar.specs.Reading.{reading};
-ghost use Rattle.text.specs.Says.{SaysPlan};
+ghost use Rattle.text.specs.Says.{SaysPlan, Valid, ReadAgain};
 use crate::stages::stages;
 use grammar::refusals::Refusal;
 use grammar::refusals::Why;
@@ -18,7 +17,9 @@ const LONGEST: usize = 65536;
 
 // The plan that `text` is, or why and where it is none.
 pub fn read(heap: Global, text: &[u8]) -> Result<Plan, Fault>
-    ensures { λ r. ⌜ SaysPlan (reading (now (text .entry))) (now (text .entry)) r ⌝ }
+    ensures whole { λ r. ⌜ SaysPlan (reading (now (text .entry))) (now (text .entry)) r ⌝ }
+    ensures valid { λ r. ⌜ Valid r ⌝ }
+    ensures again { λ r. ⌜ ReadAgain (now (text .entry)) r ⌝ }
 {
     if text.len() > LONGEST {
         return Err(Fault::Refused(Refusal {

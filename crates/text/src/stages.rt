@@ -16,6 +16,7 @@ use grammar::refusals::Why;
 use plans::exprs::Expr;
 use plans::numbers::Span;
 use plans::stages::Aggregate;
+use plans::stages::MOST_STAGES;
 use plans::stages::Stage;
 use std::alloc::Global;
 use tokens::faults::Fault;
@@ -45,7 +46,7 @@ pub(crate) struct Staged {
 const DEEP: u8 = 64;
 
 // How many stages a plan may have.
-const MOST: usize = 8;
+const MOST: usize = MOST_STAGES;
 
 // The expression behind `word`, or what stands for it where the word is left out.
 fn part(heap: Global, b: &[u8], at: usize, word: &[u8], left_out: Expr) -> Result<Part, Fault>

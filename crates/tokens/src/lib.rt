@@ -10,6 +10,7 @@ use crate::faults::Fault;
 use crate::faults::Number;
 use grammar::refusals::Refusal;
 use grammar::refusals::Why;
+use plans::stages::MOST_SPAN;
 
 pub mod faults;
 
@@ -107,7 +108,7 @@ pub fn digits(b: &[u8], at: usize) -> Result<Number, Fault>
 }
 
 // The largest lateness and the largest size of a window, in milliseconds.
-const LONGEST: u64 = 1 << 40;
+const LONGEST: u64 = MOST_SPAN;
 
 // The number at `at`, from `low` to 2^40; `why` says what any other is refused for.
 pub fn limited(b: &[u8], at: usize, low: u64, why: Why) -> Result<Number, Fault>

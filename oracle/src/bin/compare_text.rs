@@ -4,6 +4,7 @@
 
 use oracle::text::{position, print, read, Refusal, Why};
 use std::io::Write;
+use std::path::Path;
 use std::process::{Command, Stdio};
 
 /// What a text comes to: a plan, printed, or a refusal.
@@ -111,16 +112,22 @@ fn complaint(text: &[u8], refusal: Refusal) -> Vec<u8> {
     said
 }
 
-/// Runs the program on a text: does it do what the outcome says, and nothing else?
-fn agrees(program: &str, text: &[u8], outcome: &Outcome) -> Result<(), String> {
+/// Runs the program on a text, by standard input or by a file: does it do what the outcome says, and nothing else?
+fn agrees(program: &str, file: Option<&Path>, text: &[u8], outcome: &Outcome) -> Result<(), String> {
+    if let Some(file) = file {
+        std::fs::write(file, text).map_err(|e| e.to_string())?;
+    }
     let mut child = Command::new(program)
+        .args(file)
         .stdin(Stdio::piped())
         .stdout(Stdio::piped())
         .stderr(Stdio::piped())
         .spawn()
         .map_err(|e| format!("{program}: {e}"))?;
     let mut input = child.stdin.take().ok_or("no standard input")?;
-    input.write_all(text).map_err(|e| e.to_string())?;
+    if file.is_none() {
+        input.write_all(text).map_err(|e| e.to_string())?;
+    }
     drop(input);
     let output = child.wait_with_output().map_err(|e| e.to_string())?;
     let (status, out, err) = match outcome {
@@ -207,20 +214,25 @@ fn main() {
             if ours(&text) != outcome {
                 return Err(format!("the plain reader says {:?}", ours(&text)));
             }
-            agrees(program, &text, &outcome)
+            agrees(program, None, &text, &outcome)
         });
         count(line, result);
     }
     if entries < 60 {
         count("table", Err(format!("only {entries} entries")));
     }
+    let file = std::env::temp_dir().join(format!("compare_text.{}", std::process::id()));
+    for text in [GOOD[0], GOOD[7], "", "late 5;\n\tin 0 count\n"] {
+        count(&format!("file with {text:?}"), agrees(program, Some(&file), text.as_bytes(), &ours(text.as_bytes())));
+    }
+    let _ = std::fs::remove_file(&file);
     let mut plans = 0;
     for seed in 1..=3000u64 {
         let mut random = Random(seed.wrapping_mul(0x9e37_79b9_7f4a_7c15));
         let text = if seed % 3 == 0 { varied(&mut random) } else { changed(&mut random) };
         let outcome = ours(&text);
         plans += usize::from(matches!(outcome, Outcome::Printed(_)));
-        count(&format!("seed {seed}, {:?}", String::from_utf8_lossy(&text)), agrees(program, &text, &outcome));
+        count(&format!("seed {seed}, {:?}", String::from_utf8_lossy(&text)), agrees(program, None, &text, &outcome));
     }
     if plans < 500 {
         count("plans", Err(format!("only {plans} of the changed texts are plans")));

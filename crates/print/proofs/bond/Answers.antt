@@ -1,4 +1,4 @@
-use mathlib.Core.Path.{_≡_, sym, ap}
+use mathlib.Core.Path.{sym, ap}
 use Rattle.plans.specs.Model.{exprOf}
 use Rattle.grammar.specs.Printing.{bond}
 use Rattle.print.proofs.bond.Needs as need

@@ -1,9 +1,9 @@
-use mathlib.Core.Path.{_≡_, sym, ap, _∙_}
+use mathlib.Core.Path.{ap, _∙_}
 use mathlib.Core.List.{[], _∷_, _++_}
 use lib.Chars.{codes}
 use Rattle.std.specs.Of.Vec.{vec-items}
 use Rattle.std.specs.Written.{decimal}
-use Rattle.plans.specs.Model.{exprOf, aggregateOf, stageOf}
+use Rattle.plans.specs.Model.{exprOf, aggregateOf}
 use Rattle.grammar.specs.Printing.{isOne, isKey, isValue, said, named, stageText}
 use Rattle.print.proofs.Writes.{wrote-as, wrote-after}
 use Rattle.print.proofs.stage_text.Needs as need

@@ -1,4 +1,4 @@
-use mathlib.Core.Path.{_≡_, sym, _∙_}
+use mathlib.Core.Path.{sym, _∙_}
 use Rattle.std.specs.Of.Vec.{vec-items}
 use Rattle.print.proofs.Writes.{stage-more, stages-all}
 use Rattle.print.proofs.stages_text.Needs as need

@@ -1,4 +1,4 @@
-use mathlib.Core.Path.{_≡_, refl, sym}
+use mathlib.Core.Path.{refl, sym}
 use Rattle.grammar.specs.Reading.{comparison}
 use Rattle.formulas.proofs.parts.comparison.Needs as need
 

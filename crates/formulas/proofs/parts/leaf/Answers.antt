@@ -1,4 +1,4 @@
-use mathlib.Core.Path.{_≡_, refl, sym, ap, _∙_}
+use mathlib.Core.Path.{refl, sym}
 use lib.ListN.{drop}
 use lib.Seq.{drop-drop}
 use native.Mathlib.Omega.{arith}

@@ -1,4 +1,4 @@
-use mathlib.Core.Path.{_≡_, refl, sym, ap, _∙_}
+use mathlib.Core.Path.{refl, sym, ap, _∙_}
 use native.Mathlib.Omega.{arith}
 use Prim.Native.Nat.{_+_, _-_}
 use lib.ListN.{drop}
@@ -6,7 +6,7 @@ use lib.Seq.{drop-drop}
 use Rattle.std.proofs.shelf.Results.{err-from-errBy}
 use Rattle.plans.specs.Model.{exprOf}
 use Rattle.grammar.specs.declared.operators.Level.the-variants as level
-use Rattle.grammar.specs.Reading.{after, negate, chained, operand, factor, leaf, bracket, expression, closed}
+use Rattle.grammar.specs.Reading.{negate, chained, operand, factor, leaf, bracket, expression, closed}
 use Rattle.tokens.proofs.Hands.{hand-on}
 use Rattle.grammar.proofs.Readers.{parts-some, after-got, after-bad, more-none, chained-bad, chained-got, operand-sum, operand-product, factor-many, factor-not, factor-bracket, factor-leaf, bracket-deep, bracket-in, closed-ok, closed-bad, single-ok, single-bad, expression-bad, expression-one}
 use Rattle.formulas.proofs.Chains.{joins-refused, joins-counted, says-as, negates-says, turn-bad, turn-many, turn-goes, two-bad, two-many, two-joined}

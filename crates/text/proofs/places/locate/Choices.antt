@@ -1,6 +1,6 @@
 use mathlib.Core.Path.{_≡_}
-use Prim.Native.Nat.{_+_, _≤_, min}
-use lib.ListN.{length, take, drop}
+use Prim.Native.Nat.{_+_, _≤_}
+use lib.ListN.{take, drop}
 use Rattle.text.specs.Position.{behind}
 use Rattle.text.proofs.places.locate.Given as given
 

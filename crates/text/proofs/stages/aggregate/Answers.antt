@@ -1,4 +1,4 @@
-use mathlib.Core.Path.{_≡_, refl, sym}
+use mathlib.Core.Path.{refl, sym}
 use lib.Seq.{drop-drop}
 use Rattle.grammar.specs.Reading.{aggregate}
 use Rattle.text.proofs.stages.aggregate.Needs as need

@@ -1,4 +1,4 @@
-use mathlib.Core.Path.{_≡_, refl}
+use mathlib.Core.Path.{refl}
 use lib.Chars.{codes}
 use lib.ListN.{drop}
 use Rattle.std.proofs.shelf.Results.{err-from-errBy}
