@@ -1,5 +1,5 @@
 #!/usr/bin/env bash
-# Compares the program `rehearse` with the plain Rust one: on the scripts of tests/scripts/, whose output was worked out by
+# Compares the program `rehearse` with the plain Rust one: on the scripts of tests/scripts/ and scripts/, whose output was worked out by
 # hand, and on scripts made at random.
 set -u
 cd "$(dirname "$0")/.." || exit 1
@@ -7,4 +7,4 @@ if [ ! -x target/bin/rehearse ] || ! (cd oracle && cargo build --release --offli
     echo "0 passed, 1 failed"
     exit 1
 fi
-oracle/target/release/compare_rehearse target/bin/rehearse tests/scripts
+oracle/target/release/compare_rehearse target/bin/rehearse tests/scripts scripts

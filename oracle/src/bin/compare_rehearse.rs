@@ -1,6 +1,6 @@
 //! Compares the program `rehearse` with the scripts of this package: first on scripts whose output was worked out by hand
-//! (FOLDER/NAME.txt and NAME.out), then on scripts made at random, with fixed seeds.
-//! Usage: compare_rehearse REHEARSE FOLDER
+//! (NAME.txt and NAME.out of each FOLDER), then on scripts made at random, with fixed seeds.
+//! Usage: compare_rehearse REHEARSE FOLDER ..
 
 use oracle::random::Random;
 use oracle::rehearse::play;
@@ -87,7 +87,12 @@ fn main() -> std::io::Result<()> {
             println!("{name} differs\n--- script\n{}\n--- printed\n{got}\n--- expected\n{expected}", String::from_utf8_lossy(script));
         }
     };
-    let mut names: Vec<_> = std::fs::read_dir(&args[2])?.map(|f| f.map(|f| f.path())).collect::<Result<_, _>>()?;
+    let mut names = Vec::new();
+    for folder in &args[2..] {
+        for file in std::fs::read_dir(folder)? {
+            names.push(file?.path());
+        }
+    }
     names.sort();
     for path in names.iter().filter(|p| p.extension().is_some_and(|e| e == "txt")) {
         let script = std::fs::read(path)?;
