@@ -1,4 +1,4 @@
-//! Numbers by chance from a seed: small and fixed, the same on every machine.
+//! Numbers by chance from a seed, the same on every machine (xorshift).
 
 pub struct Random(u64);
 
@@ -15,10 +15,19 @@ impl Random {
     }
 
     pub fn below(&mut self, n: usize) -> usize {
-        (self.next() % n as u64) as usize
+        (self.next() >> 11) as usize % n
     }
 
     pub fn one<'a, T>(&mut self, of: &'a [T]) -> &'a T {
         &of[self.below(of.len())]
+    }
+
+    /// A word that is small, near 2^62, or anything.
+    pub fn word(&mut self) -> u64 {
+        match self.below(4) {
+            0 => self.next() % 300,
+            1 => (1 << 62) - 2 + self.next() % 4,
+            _ => self.next(),
+        }
     }
 }
