@@ -1,0 +1,1 @@
+// What holds whatever hands do with a shelf.

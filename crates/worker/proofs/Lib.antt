@@ -1,0 +1,12 @@
+pub mod Workjobs
+pub mod Workinv
+pub mod Workbook
+pub mod Workbusy
+pub mod Plainlaws
+pub mod Workalone
+pub mod Workledger
+pub mod Workends
+pub mod Workwaits
+pub mod Worklive
+pub mod Smallbytes
+pub mod Smalllaws

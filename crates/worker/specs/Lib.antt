@@ -1,0 +1,4 @@
+pub mod Worker
+pub mod Laws
+pub mod Theorems
+pub mod Small
