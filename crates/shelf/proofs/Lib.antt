@@ -1,6 +1,9 @@
-pub mod Runs
-pub mod Alones
-pub mod Ledger
+pub mod Places
+pub mod Callers
 pub mod History
+pub mod Moments
 pub mod Numbers
+pub mod Waiting
 pub mod Counts
+pub mod Latelooks
+pub mod Scripts

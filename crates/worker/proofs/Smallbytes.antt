@@ -48,9 +48,9 @@ reads-puts : (c k v : ℕ) (x : List ℕ) → v < pow c → reads c k (puts c k 
 unfolding reads puts
 reads-puts zero k v x h = omega (arith, h)
 reads-puts (suc c) k v x h =
-  let a = get-set k (v % 256) (puts c (k + 1) (v / 256) x) in
-  let b = reads-set c (k + 1) k (v % 256) (puts c (k + 1) (v / 256) x) (inl (omega arith)) ∙ reads-puts c (k + 1) (v / 256) x (omega (arith, h)) in
-  ap₂ (λ a b. a + 256 * b) a b ∙ omega arith
+    let a = get-set k (v % 256) (puts c (k + 1) (v / 256) x) in
+    let b = reads-set c (k + 1) k (v % 256) (puts c (k + 1) (v / 256) x) (inl (omega arith)) ∙ reads-puts c (k + 1) (v / 256) x (omega (arith, h)) in
+    ap₂ (λ a b. a + 256 * b) a b ∙ omega arith
 
 length-set : (k v N : ℕ) (x : List ℕ) → k < N → length x ≤ N → length (set k v x) ≤ N
 unfolding set
@@ -106,7 +106,7 @@ small-new x i c s one hc hs = and-from (ltb 0 s) _ (lt-ltb 0 s (omega (arith, on
 pub small-mine : (x : List ℕ) (i c s d t : ℕ) → c < 18446744073709551616 → s < 18446744073709551616 → smallHas (smallAdds x i c s) i d t ≡ true → (d ≡ c) × (t ≡ s)
 unfolding smallHas
 small-mine x i c s d t hc hs e = let q = and-parts (eqb (reads 8 (16 * i) (smallAdds x i c s)) d) (eqb (reads 8 (16 * i + 8) (smallAdds x i c s)) t) (and-parts (ltb 0 t) (eqb (reads 8 (16 * i) (smallAdds x i c s)) d && eqb (reads 8 (16 * i + 8) (smallAdds x i c s)) t) e .1) in
-  (sym (eqb-true (reads 8 (16 * i) (smallAdds x i c s)) d (q .0)) ∙ reads-c x i c s hc, sym (eqb-true (reads 8 (16 * i + 8) (smallAdds x i c s)) t (q .1)) ∙ reads-s x i c s hs)
+    (sym (eqb-true (reads 8 (16 * i) (smallAdds x i c s)) d (q .0)) ∙ reads-c x i c s hc, sym (eqb-true (reads 8 (16 * i + 8) (smallAdds x i c s)) t (q .1)) ∙ reads-s x i c s hs)
 
 apart : (i j : ℕ) → (j ≡ i → ⊥) → (j < i) ⊎ (i < j)
 apart i j ne = ⊎-elim (λ t. inl (ltb-true j i t)) (λ t. let q = ltb-false j i t in inr (⊎-elim (λ u. ltb-true i j u) (λ u. let w = ltb-false i j u in absurd (ne (omega (arith, q, w)))) (cases-bool (ltb i j)))) (cases-bool (ltb j i))

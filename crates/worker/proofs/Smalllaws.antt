@@ -16,11 +16,10 @@ use Rattle.interface.specs.Plain.{Plain, Now, Kept}
 use Rattle.interface.specs.Live.{Live, AnswersAll}
 use Rattle.worker.specs.Theorems.{WorkerEnds}
 use Rattle.worker.specs.Small.{smallHas, smallAdds, smallDue, smallAfter, smallPages, smallTake, smallDiffers, small, SmallEnds, SmallOut, Silent}
-use Rattle.shelf.proofs.Alones.{at-self}
-use Rattle.shelf.proofs.History.{at-one}
-use Rattle.worker.proofs.Workinv.{log-some}
+use Rattle.shelf.proofs.Places.{at-self, at-one}
+use Rattle.worker.proofs.Invariant.{log-some}
 use Rattle.worker.proofs.Smallbytes.{length-adds, bytes-adds, small-none, small-new, small-mine, small-other}
-use Rattle.worker.proofs.Worklive.{worker-ends, worker-out}
+use Rattle.worker.proofs.Comesout.{worker-ends, worker-out}
 
 abbrev Fits : List ℕ → Type 0
 Fits x = T (leb (length x) 1048576 && allBytes x)
@@ -53,15 +52,15 @@ six = (λ e. omega (arith, e), λ l e. omega (arith, e))
 
 fine-other : (f : ℕ → Box) (d : ℕ) (y : Box) → Fine f → Few (y .bytes) → 1 ≤ y .edition → (d ≡ 0 → ⊥) → Fine (at d y f)
 fine-other f d y h fw ed no0 = record {
-    few = λ b. at-one (λ z. Few (z .bytes)) d y f b (λ _. fw) (λ _. h .few b);
-    spent = λ b s. let t = h .spent b (subst (λ z. Spent' (z .bytes) b) (other d y f 0 (λ z. no0 (sym z))) s) in (t .0, at-one (λ z. 1 ≤ z .edition) d y f b (λ _. ed) (λ _. t .1))
-  }
+  few = λ b. at-one (λ z. Few (z .bytes)) d y f b (λ _. fw) (λ _. h .few b);
+  spent = λ b s. let t = h .spent b (subst (λ z. Spent' (z .bytes) b) (other d y f 0 (λ z. no0 (sym z))) s) in (t .0, at-one (λ z. 1 ≤ z .edition) d y f b (λ _. ed) (λ _. t .1));
+}
 
 fine-led : (f : ℕ → Box) (y : Box) → Fine f → Few (y .bytes) → ((b : ℕ) → Spent' (y .bytes) b → IsPage b × (1 ≤ f b .edition)) → Fine (at 0 y f)
 fine-led f y h fw sp = record {
-    few = λ b. at-one (λ z. Few (z .bytes)) 0 y f b (λ _. fw) (λ _. h .few b);
-    spent = λ b s. let t = sp b (subst (λ z. Spent' (z .bytes) b) (at-self 0 y f) s) in (t .0, subst (λ z. 1 ≤ z .edition) (sym (other 0 y f b (t .0 .0))) (t .1))
-  }
+  few = λ b. at-one (λ z. Few (z .bytes)) 0 y f b (λ _. fw) (λ _. h .few b);
+  spent = λ b s. let t = sp b (subst (λ z. Spent' (z .bytes) b) (at-self 0 y f) s) in (t .0, subst (λ z. 1 ≤ z .edition) (sym (other 0 y f b (t .0 .0))) (t .1));
+}
 
 abbrev Keeps : (ls : List (List Entry)) (f : ℕ → Box) (ls' : List (List Entry)) (f' : ℕ → Box) → Type 0
 Keeps ls f ls' f' = Kept (λ ls f x. Unit {0}) (λ ls f l x. Unit {0}) (λ ls f x. Unit {0}) Spent' ls f ls' f'
@@ -159,32 +158,49 @@ replies x y e = cc
 small-plain : (p : Plan) (logs : ℕ) → logs ≤ 256 → Plain small p logs
 unfolding firstOf allBytes
 small-plain p logs lg = record {
-    bound = 72057594037927936 + 24 * logs + 1000; far = omega arith;
-    Sound = λ n ls f. Fine f; LedWas = λ ls f x. Unit {0}; LogWas = λ ls f l x. Unit {0}; Floor = λ ls f x. Unit {0}; Spent = Spent';
-    led-now = λ {n} {ls} {f} h. tt; log-now = λ {n} {ls} {f} h l. tt; floor-none = λ ls f. tt; floor-raise = λ ls f fl x a b. tt;
-    starts = record { few = λ b. (omega arith, refl); spent = λ b s. absurd s }; later = λ {n} {ls} {f} h. h;
-    due-page = λ l b e. subst IsPage (sym (due-is l b e .0)) five; pages-page = λ l x a m. pages-are l x a m .0; answer-page = λ f n l got b e. absurd (let z : _≡_ {A = ℕ} 0 1 = cc in omega arith); pages-one = λ l x a b m k e. pages-same l x a b m k;
-    spent-filled = λ {n} {ls} {f} h b s. h .spent b s; due-spent = λ {n} {ls} {f} h b e. due-is (f 0 .bytes) b e .1;
-    pages-new = λ {n} {ls} {f} h x now a m. (pages-are (f 0 .bytes) x a m .1, let q = pages-few f (f 0 .bytes) x h now a m in fits-of (a .bytes) (q .0) (q .1));
-    answer-spent = λ {n} {ls} {f} h from most l got b u e. absurd (let z : _≡_ {A = ℕ} 0 1 = cc in omega arith);
-    has-none = small-none;
-    has-new = λ ls f n i c s l fl old bs es sm lt was tag e. let a = tag .from in let b = tag .upto in subst (λ z. smallHas z i c s ≡ true) (gives-are (smallAdds old i c s) bs e) (small-new old i c s a (tag .life) (omega (arith, b, sm, lg)));
-    has-mine = λ ls f n i c s l fl old bs es sm lt was tag e d t one h. let b = tag .upto in small-mine old i c s d t (tag .life) (omega (arith, b, sm, lg)) (subst (λ z. smallHas z i d t ≡ true) (sym (gives-are (smallAdds old i c s) bs e)) h);
-    has-other = λ ls f n i c s l fl old bs es sm lt was tag e j d t ne. ap (λ z. smallHas z j d t) (sym (gives-are (smallAdds old i c s) bs e)) ∙ small-other old i c s j d t ne;
-    put-ok = λ {n} {ls} {f} i c s l e fl bs es sm h lt fo tag ok few g.
-      (fine-other f (logBox l) (record { edition = e + 1; bytes = bs }) h (subst Few (gives-are (smallAdds (f (logBox l) .bytes) i c s) bs g) (length-adds (f (logBox l) .bytes) i c s (tag .hand) (h .few (logBox l) .0), bytes-adds (f (logBox l) .bytes) i c s (h .few (logBox l) .1))) (omega arith) (log-some l),
-       keeps-other ls _ f (logBox l) (record { edition = e + 1; bytes = bs }) (log-some l));
-    page-ok = λ {n} {ls} {f} x a sm h now m e. let pg = pages-are (f 0 .bytes) x a m .0 in
+  bound = 72057594037927936 + 24 * logs + 1000;
+  far = omega arith;
+  Sound = λ n ls f. Fine f;
+  LedWas = λ ls f x. Unit {0};
+  LogWas = λ ls f l x. Unit {0};
+  Floor = λ ls f x. Unit {0};
+  Spent = Spent';
+  led-now = λ {n} {ls} {f} h. tt;
+  log-now = λ {n} {ls} {f} h l. tt;
+  floor-none = λ ls f. tt;
+  floor-raise = λ ls f fl x a b. tt;
+  starts = record { few = λ b. (omega arith, refl); spent = λ b s. absurd s };
+  later = λ {n} {ls} {f} h. h;
+  due-page = λ l b e. subst IsPage (sym (due-is l b e .0)) five;
+  pages-page = λ l x a m. pages-are l x a m .0;
+  answer-page = λ f n l got b e. absurd (let z : _≡_ {A = ℕ} 0 1 = cc in omega arith);
+  pages-one = λ l x a b m k e. pages-same l x a b m k;
+  spent-filled = λ {n} {ls} {f} h b s. h .spent b s;
+  due-spent = λ {n} {ls} {f} h b e. due-is (f 0 .bytes) b e .1;
+  pages-new = λ {n} {ls} {f} h x now a m. (pages-are (f 0 .bytes) x a m .1, let q = pages-few f (f 0 .bytes) x h now a m in fits-of (a .bytes) (q .0) (q .1));
+  answer-spent = λ {n} {ls} {f} h from most l got b u e. absurd (let z : _≡_ {A = ℕ} 0 1 = cc in omega arith);
+  has-none = small-none;
+  has-new = λ ls f n i c s l fl old bs es sm lt was tag e. let a = tag .from in let b = tag .upto in subst (λ z. smallHas z i c s ≡ true) (gives-are (smallAdds old i c s) bs e) (small-new old i c s a (tag .life) (omega (arith, b, sm, lg)));
+  has-mine = λ ls f n i c s l fl old bs es sm lt was tag e d t one h. let b = tag .upto in small-mine old i c s d t (tag .life) (omega (arith, b, sm, lg)) (subst (λ z. smallHas z i d t ≡ true) (sym (gives-are (smallAdds old i c s) bs e)) h);
+  has-other = λ ls f n i c s l fl old bs es sm lt was tag e j d t ne. ap (λ z. smallHas z j d t) (sym (gives-are (smallAdds old i c s) bs e)) ∙ small-other old i c s j d t ne;
+  put-ok = λ {n} {ls} {f} i c s l e fl bs es sm h lt fo tag ok few g. (
+    fine-other f (logBox l) (record { edition = e + 1; bytes = bs }) h (subst Few (gives-are (smallAdds (f (logBox l) .bytes) i c s) bs g) (length-adds (f (logBox l) .bytes) i c s (tag .hand) (h .few (logBox l) .0), bytes-adds (f (logBox l) .bytes) i c s (h .few (logBox l) .1))) (omega arith) (log-some l),
+    keeps-other ls _ f (logBox l) (record { edition = e + 1; bytes = bs }) (log-some l),
+  );
+  page-ok = λ {n} {ls} {f} x a sm h now m e. let pg = pages-are (f 0 .bytes) x a m .0 in
       (fine-other f (a .box) (record { edition = 1; bytes = a .bytes }) h (pages-few f (f 0 .bytes) x h now a m) (omega arith) (pg .0), keeps-other ls ls f (a .box) (record { edition = 1; bytes = a .bytes }) (pg .0));
-    step-ok = λ {n} {ls} {f} e x sm h now ps.
-      (fine-led f (record { edition = e + 1; bytes = smallAfter (f 0 .bytes) }) h (after-few (f 0 .bytes) (h .few 0)) (after-back f (f 0 .bytes) x (h .spent) ps),
-       keeps-led ls f (record { edition = e + 1; bytes = smallAfter (f 0 .bytes) }) (after-spent (f 0 .bytes)), λ a m. pages-are (f 0 .bytes) x a m .2);
-    same-ok = λ {n} {ls} {f} e h. (fine-led f (record { edition = e + 1; bytes = f 0 .bytes }) h (h .few 0) (h .spent), keeps-led ls f (record { edition = e + 1; bytes = f 0 .bytes }) (λ b s. s));
-    take-ok = λ {n} {ls} {f} e l x y sm h d lt was g. let q = gives-are (smallTake (f 0 .bytes) x) y g in
-      (fine-led f (record { edition = e + 1; bytes = y }) h (subst Few q (take-few (f 0 .bytes) x (h .few 0))) (λ b s. h .spent b (take-back (f 0 .bytes) x b (subst (λ z. Spent' z b) (sym q) s))),
-       keeps-led ls f (record { edition = e + 1; bytes = y }) (λ b s. subst (λ z. Spent' z b) q (take-spent (f 0 .bytes) x b s)));
-    answer-ok = λ {n} {ls} {f} from most l got es h was ga e. (0, omega arith, sym (replies [] es e))
-  }
+  step-ok = λ {n} {ls} {f} e x sm h now ps. (
+    fine-led f (record { edition = e + 1; bytes = smallAfter (f 0 .bytes) }) h (after-few (f 0 .bytes) (h .few 0)) (after-back f (f 0 .bytes) x (h .spent) ps),
+    keeps-led ls f (record { edition = e + 1; bytes = smallAfter (f 0 .bytes) }) (after-spent (f 0 .bytes)),
+    λ a m. pages-are (f 0 .bytes) x a m .2,
+  );
+  same-ok = λ {n} {ls} {f} e h. (fine-led f (record { edition = e + 1; bytes = f 0 .bytes }) h (h .few 0) (h .spent), keeps-led ls f (record { edition = e + 1; bytes = f 0 .bytes }) (λ b s. s));
+  take-ok = λ {n} {ls} {f} e l x y sm h d lt was g. let q = gives-are (smallTake (f 0 .bytes) x) y g in (
+    fine-led f (record { edition = e + 1; bytes = y }) h (subst Few q (take-few (f 0 .bytes) x (h .few 0))) (λ b s. h .spent b (take-back (f 0 .bytes) x b (subst (λ z. Spent' z b) (sym q) s))),
+    keeps-led ls f (record { edition = e + 1; bytes = y }) (λ b s. subst (λ z. Spent' z b) q (take-spent (f 0 .bytes) x b s)),
+  );
+  answer-ok = λ {n} {ls} {f} from most l got es h was ga e. (0, omega arith, sym (replies [] es e));
+}
 
 -- LIVE
 smallWork : List ℕ → ℕ
@@ -243,21 +259,28 @@ take-less (z ∷ y) x t = absurd (both-ways (smallDiffers (z ∷ y) (z ∷ y)) (
 small-live : (p : Plan) (logs : ℕ) (lg : logs ≤ 256) → Live small p logs (small-plain p logs lg)
 unfolding small-plain
 small-live p logs lg = record {
-    work = λ l f. smallWork l; heavy = 0; long = 0; left = λ from most l got. 0; Took = λ y l b. Unit {0};
-    enough = λ {n} {ls} {f} sm h. let q = work-most (f 0 .bytes) in omega (arith, sm, q);
-    fits = λ {n} {ls} {f} sm h b kd. fits-of (f b .bytes) (h .few b .0) (h .few b .1);
-    few-pages = few-of; work-led = λ x b f. refl;
-    work-page = λ {n} {ls} {f} sm h x now a m e. omega arith;
-    work-step = λ {n} {k} {ls} {ms} {f} e sm sk h x now h'. work-less f (f 0 .bytes) x now;
-    took-step = λ {n} {ls} {f} sm h x now l t. tt;
-    differs-not = not-differs;
-    take-gives = λ {n} {ls} {f} sm h d l ll e. let z : _≡_ {A = ℕ} 0 1 = cc in omega arith;
-    work-take = λ {n} {ls} {f} sm h d l y ll e t. let q = gives-are (smallTake (f 0 .bytes) (f (logBox l) .bytes)) y e in subst (λ z. smallWork z < smallWork (f 0 .bytes)) q (take-less (f 0 .bytes) (f (logBox l) .bytes) (ap (smallDiffers (f 0 .bytes)) q ∙ t));
-    took-take = λ {n} {ls} {f} sm h d l y ll e u. tt; took-other = λ {n} {ls} {f} sm h d l y ll e k t. tt;
-    adds-room = λ {n} {ls} {f} sm h d i c s l fl es ll t few e. let z : _≡_ {A = ℕ} 0 1 = cc in omega arith;
-    work-put = λ {n} {k} {ls} {ms} {f} e sm sk h i c s l fl bs es ll few g h'. omega arith;
-    left-most = λ from most l got. omega arith; left-less = λ {n} {ls} {f} sm h from most b got e. absurd (let z : _≡_ {A = ℕ} 0 1 = cc in omega arith)
-  }
+  work = λ l f. smallWork l;
+  heavy = 0;
+  long = 0;
+  left = λ from most l got. 0;
+  Took = λ y l b. Unit {0};
+  enough = λ {n} {ls} {f} sm h. let q = work-most (f 0 .bytes) in omega (arith, sm, q);
+  fits = λ {n} {ls} {f} sm h b kd. fits-of (f b .bytes) (h .few b .0) (h .few b .1);
+  few-pages = few-of;
+  work-led = λ x b f. refl;
+  work-page = λ {n} {ls} {f} sm h x now a m e. omega arith;
+  work-step = λ {n} {k} {ls} {ms} {f} e sm sk h x now h'. work-less f (f 0 .bytes) x now;
+  took-step = λ {n} {ls} {f} sm h x now l t. tt;
+  differs-not = not-differs;
+  take-gives = λ {n} {ls} {f} sm h d l ll e. let z : _≡_ {A = ℕ} 0 1 = cc in omega arith;
+  work-take = λ {n} {ls} {f} sm h d l y ll e t. let q = gives-are (smallTake (f 0 .bytes) (f (logBox l) .bytes)) y e in subst (λ z. smallWork z < smallWork (f 0 .bytes)) q (take-less (f 0 .bytes) (f (logBox l) .bytes) (ap (smallDiffers (f 0 .bytes)) q ∙ t));
+  took-take = λ {n} {ls} {f} sm h d l y ll e u. tt;
+  took-other = λ {n} {ls} {f} sm h d l y ll e k t. tt;
+  adds-room = λ {n} {ls} {f} sm h d i c s l fl es ll t few e. let z : _≡_ {A = ℕ} 0 1 = cc in omega arith;
+  work-put = λ {n} {k} {ls} {ms} {f} e sm sk h i c s l fl bs es ll few g h'. omega arith;
+  left-most = λ from most l got. omega arith;
+  left-less = λ {n} {ls} {f} sm h from most b got e. absurd (let z : _≡_ {A = ℕ} 0 1 = cc in omega arith);
+}
 
 drop-none : {A : Type 0} (k : ℕ) → dropOf {A = A} k [] ≡ []
 unfolding dropOf
@@ -273,5 +296,8 @@ pub small-ends : SmallEnds
 small-ends p logs one lg = worker-ends small p logs (small-plain p logs lg) (small-live p logs lg) one
 
 pub small-out : SmallOut
-small-out = worker-out (λ p logs. small) Silent (λ p quiet ok logs one lg. (small-plain p logs lg, small-live p logs lg,
-  λ n ls f sm h d t from most got es ms ga e. sym (replies [] es e) ∙ (sym (first-none most) ∙ ap (firstOf most) (sym (drop-none from) ∙ ap (dropOf from) (sym (quiet ls))))))
+small-out = worker-out (λ p logs. small) Silent (λ p quiet ok logs one lg. (
+  small-plain p logs lg,
+  small-live p logs lg,
+  λ n ls f sm h d t from most got es ms ga e. sym (replies [] es e) ∙ (sym (first-none most) ∙ ap (firstOf most) (sym (drop-none from) ∙ ap (dropOf from) (sym (quiet ls)))),
+))

@@ -56,15 +56,14 @@ pub record Laws (o : Ops) (p : Plan) (logs : ℕ) : Type 1 where
   pub has-other : (w : World) (n i c s l : ℕ) (fl old bs : List ℕ) (es : List Entry) → n < bound → l < logs → Was w (logBox l) old → Tag n i c s → o .adds fl i c s l old es ≡ gives bs → (j d t : ℕ) → (j ≡ i → ⊥) → o .has bs j d t ≡ o .has old j d t
   -- the fillings
   pub put-ok : {n : ℕ} {w : World} {f : ℕ → Box} (i c s l e : ℕ) (fl bs : List ℕ) (es : List Entry) → n < bound → Sound n w f → l < logs → Floor w fl → Tag n i c s → ((x : Entry) → List·Memᴰ x es → T (entryOk x)) → length es ≤ 8 → o .adds fl i c s l (f (logBox l) .bytes) es ≡ gives bs →
-    (v : World) × Upto w v × Sound (suc n) v (at (logBox l) (record { edition = e + 1; bytes = bs }) f) × (logsOf v ≡ putAll l es (logsOf w))
+      (v : World) × Upto w v × Sound (suc n) v (at (logBox l) (record { edition = e + 1; bytes = bs }) f) × (logsOf v ≡ putAll l es (logsOf w))
   pub page-ok : {n : ℕ} {w : World} {f : ℕ → Box} (b : ℕ) (x : List ℕ) → n < bound → Sound n w f → IsPage b → Must w b x → f b .edition ≡ 0 →
-    (v : World) × Upto w v × Sound (suc n) v (at b (record { edition = 1; bytes = x }) f) × (logsOf v ≡ logsOf w)
+      (v : World) × Upto w v × Sound (suc n) v (at b (record { edition = 1; bytes = x }) f) × (logsOf v ≡ logsOf w)
   pub step-ok : {n : ℕ} {w : World} {f : ℕ → Box} (e : ℕ) (x : List ℕ) → n < bound → Sound n w f → Right (Must w) (o .due (f 0 .bytes)) x → ((a : Page) → List·Memᴰ a (o .pages (f 0 .bytes) x) → (1 ≤ f (a .box) .edition) × (f (a .box) .bytes ≡ a .bytes)) →
-    (v : World) × Upto w v × Sound (suc n) v (at 0 (record { edition = e + 1; bytes = o .after (f 0 .bytes) x }) f) × (logsOf v ≡ logsOf w)
+      (v : World) × Upto w v × Sound (suc n) v (at 0 (record { edition = e + 1; bytes = o .after (f 0 .bytes) x }) f) × (logsOf v ≡ logsOf w)
   pub same-ok : {n : ℕ} {w : World} {f : ℕ → Box} (e : ℕ) → Sound n w f → (v : World) × Upto w v × Sound n v (at 0 (record { edition = e + 1; bytes = f 0 .bytes }) f) × (logsOf v ≡ logsOf w)
   pub take-ok : {n : ℕ} {w : World} {f : ℕ → Box} (e l : ℕ) (x y : List ℕ) → n < bound → Sound n w f → o .due (f 0 .bytes) ≡ nothing → l < logs → Was w (logBox l) x → o .take (f 0 .bytes) l x ≡ gives y →
-    (v : World) × Upto w v × Sound n v (at 0 (record { edition = e + 1; bytes = y }) f) × (logsOf v ≡ logsOf w)
+      (v : World) × Upto w v × Sound n v (at 0 (record { edition = e + 1; bytes = y }) f) × (logsOf v ≡ logsOf w)
   -- what came out stands: by an old ledger too
   pub answer-ok : {n : ℕ} {w : World} {f : ℕ → Box} (from most : ℕ) (l : List ℕ) (got es : List Event) → Sound n w f → Was w 0 l → Gathered o (Must w) from most l got → o .answer from most l got ≡ reply es →
-    (j : ℕ) × (j ≤ most) × (es ≡ firstOf j (dropOf from (out p (logsOf w))))
-
+      (j : ℕ) × (j ≤ most) × (es ≡ firstOf j (dropOf from (out p (logsOf w))))

@@ -72,9 +72,17 @@ smallDiffers (a ∷ x) (b ∷ y) = not (eqb a b) || smallDiffers x y
 
 abbrev pub small : Ops
 small = record {
-    has = smallHas; adds = λ fl i c s l x es. gives (smallAdds x i c s); raise = λ x fl. fl; due = smallDue; after = λ l x. smallAfter l; pages = smallPages; take = λ y l x. gives (smallTake y x); differs = smallDiffers;
-    answer = λ f n l got. reply []; more = λ f n l got x. got
-  }
+  has = smallHas;
+  adds = λ fl i c s l x es. gives (smallAdds x i c s);
+  raise = λ x fl. fl;
+  due = smallDue;
+  after = λ l x. smallAfter l;
+  pages = smallPages;
+  take = λ y l x. gives (smallTake y x);
+  differs = smallDiffers;
+  answer = λ f n l got. reply [];
+  more = λ f n l got x. got;
+}
 
 abbrev pub SmallEnds : Type 0
 SmallEnds = (p : Plan) (logs : ℕ) → 1 ≤ logs → logs ≤ 256 → OneIsEnough (worker small logs)

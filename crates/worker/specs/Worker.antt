@@ -203,7 +203,7 @@ module _ (o : Ops) (logs : ℕ) where
   abbrev pub tookBy : Mind → (edition : ℕ) → (led : List ℕ) → (changed : Bool) → (log : ℕ) → Gives → Step
   tookBy m e l c n lacks = readLedger m
   tookBy m e l c n (gives x) = cond (isNothing (o .due x)) (nextLog (looking m (m .floor) (cond (ltb (n + 1) logs) (n + 1) 0) (lessOne (m .left))) e x (c || o .differs l x))
-    (cond (c || o .differs l x) (asks m (fill 0 e x) kept) (readLedger m))
+      (cond (c || o .differs l x) (asks m (fill 0 e x) kept) (readLedger m))
 
   -- what came out
   abbrev pub gatherBy : Mind → (number from most : ℕ) → (led : List ℕ) → List Event → Next → Step
@@ -271,7 +271,7 @@ turnOf r = record { does = telling (r .tell) (asking' (r .mind .asked) (r .ask))
 
 abbrev pub worker : Ops → (logs : ℕ) → Hand ℕ Call Reply
 worker o logs = record {
-    Mind = Mind; begins = λ me chance. record { asked = 0; heard = true; phase = rest; floor = []; place = 0; left = 0; keep = record { me = me; chance = chance; serial = 0; batch = none; waiting = [] } };
-    turns = λ x m. turnOf (acts o logs x m)
-  }
-
+  Mind = Mind;
+  begins = λ me chance. record { asked = 0; heard = true; phase = rest; floor = []; place = 0; left = 0; keep = record { me = me; chance = chance; serial = 0; batch = none; waiting = [] } };
+  turns = λ x m. turnOf (acts o logs x m);
+}

@@ -14,8 +14,8 @@ use Rattle.streams.specs.Hands.{Seen, called, told, Keeper, Open, Ready, Out, T
 use Rattle.streams.specs.Promise.{streams, room}
 use Rattle.interface.specs.Ops.{putAll}
 use Rattle.worker.specs.Worker.{Job, Told, Asks, none', show, fill, keepIf, entries, entryOf, yeses, telling, asking'}
-use Rattle.shelf.proofs.Runs.{all-cons, all-none}
-use Rattle.shelf.proofs.Ledger.{Less, taken, later, less-of, less-rest, less-in, Loose, loose-in, loose-done, loose-out, loose-back}
+use Rattle.shelf.proofs.Places.{all-cons, all-none}
+use Rattle.shelf.proofs.Latelooks.{Less, taken, later, less-of, less-rest, less-in, Loose, loose-in, loose-done, loose-out, loose-back}
 
 abbrev pub opening : (i k : ℕ) → Call → Open Call
 opening i k o = record { hand = i; number = k; call = o }
@@ -38,8 +38,8 @@ pub in-keep : (f : Job → Bool) (js : List Job) (a : Job) → List·Memᴰ a (k
 unfolding keepIf
 in-keep f [] a m = elim m [ ]
 in-keep f (j ∷ js) a m = cond-both (f j) (j ∷ keepIf f js) (keepIf f js) (λ z. List·Memᴰ a z → List·Memᴰ a (j ∷ js) × (f a ≡ true))
-  (λ t. all-cons (λ z. List·Memᴰ z (j ∷ js) × (f z ≡ true)) (List·Memᴰ·head refl, t) (λ z x. let r = in-keep f js z x in (List·Memᴰ·tail (r .0), r .1)) a)
-  (λ t x. let r = in-keep f js a x in (List·Memᴰ·tail (r .0), r .1)) m
+    (λ t. all-cons (λ z. List·Memᴰ z (j ∷ js) × (f z ≡ true)) (List·Memᴰ·head refl, t) (λ z x. let r = in-keep f js z x in (List·Memᴰ·tail (r .0), r .1)) a)
+    (λ t x. let r = in-keep f js a x in (List·Memᴰ·tail (r .0), r .1)) m
 
 pub distinct-keep : (f : Job → Bool) (js : List Job) → Distinct js → Distinct (keepIf f js)
 unfolding keepIf
@@ -48,8 +48,10 @@ distinct-keep f (j ∷ js) d = cond-both (f j) (j ∷ keepIf f js) (keepIf f js)
 
 pub distinct-snoc : (js : List Job) (j : Job) → Distinct js → ((a : Job) → List·Memᴰ a js → a .number ≡ j .number → ⊥) → Distinct (js ++ (j ∷ []))
 distinct-snoc [] j d n = (λ a m. elim m [ ], tt)
-distinct-snoc (b ∷ js) j d n = (λ a m e. ⊎-elim (λ x. d .0 a x e) (λ x. all-cons (λ z. b .number ≡ z .number → ⊥) (n b (List·Memᴰ·head refl)) (all-none (λ z. b .number ≡ z .number → ⊥)) a x e) (List·Memᴰ·append-cases js m),
-  distinct-snoc js j (d .1) (λ a m. n a (List·Memᴰ·tail m)))
+distinct-snoc (b ∷ js) j d n = (
+  λ a m e. ⊎-elim (λ x. d .0 a x e) (λ x. all-cons (λ z. b .number ≡ z .number → ⊥) (n b (List·Memᴰ·head refl)) (all-none (λ z. b .number ≡ z .number → ⊥)) a x e) (List·Memᴰ·append-cases js m),
+  distinct-snoc js j (d .1) (λ a m. n a (List·Memᴰ·tail m)),
+)
 
 -- a put of a log, that is all right
 abbrev pub IsPut : ℕ → Call → Type 0
@@ -134,29 +136,31 @@ module _ (p : Plan) (logs : ℕ) where
     pub ready : (j : Job) → List·Memᴰ j js → List·Memᴰ (readying i (j .number) Yes) readies
 
   mutual-one : (es : List (Seen Call Reply)) (i l : ℕ) (k : ℕ) (c : Call) (js : List Job) (ls : List (List Entry)) (os : List (Open Call)) (rs : List (Ready Reply)) → l < length ls → IsPut l c → Loose K es (stateOf ls) os rs → List·Memᴰ (opening i k c) os →
-    ((ls' : List (List Entry)) (os' : List (Open Call)) (rs' : List (Ready Reply)) → l < length ls' → Less (opening i k c) os os' → Loose K es (stateOf ls') os' rs' → DoneAll es (putAll l (entries js) ls') os' rs' i js) →
-    ((j : Job) → List·Memᴰ j js → k ≡ j .number → ⊥) → DoneAll es (putAll l (entryOf c (entries js)) ls) os rs i (record { number = k; call = c } ∷ js)
+      ((ls' : List (List Entry)) (os' : List (Open Call)) (rs' : List (Ready Reply)) → l < length ls' → Less (opening i k c) os os' → Loose K es (stateOf ls') os' rs' → DoneAll es (putAll l (entries js) ls') os' rs' i js) →
+      ((j : Job) → List·Memᴰ j js → k ≡ j .number → ⊥) → DoneAll es (putAll l (entryOf c (entries js)) ls) os rs i (record { number = k; call = c } ∷ js)
   unfolding putAll core
   mutual-one es i l k (Out' a b) js ls os rs lt h lo m f d = absurd h
   mutual-one es i l k (Drop n) js ls os rs lt h lo m f d = absurd h
   mutual-one es i l k (Put n e) js ls os rs lt h lo m f d =
-    let x = less-of m in
-    let q : n < length ls = subst (λ z. z < length ls) (sym (h .0)) lt in
-    let lo' : Loose K es (stateOf (putIn l e ls)) (x .0) (readying i k Yes ∷ rs) = subst (λ z. Loose K es (stateOf (putIn z e ls)) (x .0) (readying i k Yes ∷ rs)) (h .0) (loose-done K (opening i k (Put n e)) Yes lo (x .1) (put n e (stateOf ls) tt (h .1) q)) in
-    let r = f (putIn l e ls) (x .0) (readying i k Yes ∷ rs) (subst (λ z. l < z) (sym (length-put l e ls)) lt) (x .1) lo' in
-    record {
-      opens = r .opens; readies = r .readies; loose = r .loose;
-      stay = λ a y z. r .stay a (⊎-elim (λ u. absurd (z (record { number = k; call = Put n e }) (List·Memᴰ·head refl) (ap (λ v. v .number) u))) (λ u. u) (less-rest (x .1) y)) (λ j w. z j (List·Memᴰ·tail w));
-      still = λ a y. r .still a (List·Memᴰ·tail y);
-      ready = all-cons (λ j. List·Memᴰ (readying i (j .number) Yes) (r .readies)) (r .still (readying i k Yes) (List·Memᴰ·head refl)) (r .ready)
-    }
+      let x = less-of m in
+      let q : n < length ls = subst (λ z. z < length ls) (sym (h .0)) lt in
+      let lo' : Loose K es (stateOf (putIn l e ls)) (x .0) (readying i k Yes ∷ rs) = subst (λ z. Loose K es (stateOf (putIn z e ls)) (x .0) (readying i k Yes ∷ rs)) (h .0) (loose-done K (opening i k (Put n e)) Yes lo (x .1) (put n e (stateOf ls) tt (h .1) q)) in
+      let r = f (putIn l e ls) (x .0) (readying i k Yes ∷ rs) (subst (λ z. l < z) (sym (length-put l e ls)) lt) (x .1) lo' in
+      record {
+        opens = r .opens;
+        readies = r .readies;
+        loose = r .loose;
+        stay = λ a y z. r .stay a (⊎-elim (λ u. absurd (z (record { number = k; call = Put n e }) (List·Memᴰ·head refl) (ap (λ v. v .number) u))) (λ u. u) (less-rest (x .1) y)) (λ j w. z j (List·Memᴰ·tail w));
+        still = λ a y. r .still a (List·Memᴰ·tail y);
+        ready = all-cons (λ j. List·Memᴰ (readying i (j .number) Yes) (r .readies)) (r .still (readying i k Yes) (List·Memᴰ·head refl)) (r .ready);
+      }
 
   pub done-all : (es : List (Seen Call Reply)) (i l : ℕ) (js : List Job) (ls : List (List Entry)) (os : List (Open Call)) (rs : List (Ready Reply)) → l < length ls → Distinct js → ((j : Job) → List·Memᴰ j js → IsPut l (j .call)) →
-    ((j : Job) → List·Memᴰ j js → List·Memᴰ (opening i (j .number) (j .call)) os) → Loose K es (stateOf ls) os rs → DoneAll es (putAll l (entries js) ls) os rs i js
+      ((j : Job) → List·Memᴰ j js → List·Memᴰ (opening i (j .number) (j .call)) os) → Loose K es (stateOf ls) os rs → DoneAll es (putAll l (entries js) ls) os rs i js
   unfolding entries putAll
   done-all es i l [] ls os rs lt d h g lo = record { opens = os; readies = rs; loose = lo; stay = λ a m n. m; still = λ a m. m; ready = λ j m. elim m [ ] }
   done-all es i l (j ∷ js) ls os rs lt d h g lo = mutual-one es i l (j .number) (j .call) js ls os rs lt (h j (List·Memᴰ·head refl)) lo (g j (List·Memᴰ·head refl))
-    (λ ls' os' rs' lt' le lo'. done-all es i l js ls' os' rs' lt' (d .1) (λ a m. h a (List·Memᴰ·tail m)) (λ a m. ⊎-elim (λ u. absurd (d .0 a m (sym (ap (λ v. v .number) u)))) (λ u. u) (less-rest le (g a (List·Memᴰ·tail m)))) lo') (d .0)
+      (λ ls' os' rs' lt' le lo'. done-all es i l js ls' os' rs' lt' (d .1) (λ a m. h a (List·Memᴰ·tail m)) (λ a m. ⊎-elim (λ u. absurd (d .0 a m (sym (ap (λ v. v .number) u)))) (λ u. u) (less-rest le (g a (List·Memᴰ·tail m)))) lo') (d .0)
 
   pub record TellAll (es : List (Seen Call Reply)) (ls : List (List Entry)) (os : List (Open Call)) (rs : List (Ready Reply)) (i : ℕ) (js : List Job) : Type 0 where
     pub readies : List (Ready Reply)
@@ -189,13 +193,14 @@ sent-are i c q (t ∷ ts) a = sent-are i c q ts a
 
 module _ (p : Plan) (logs : ℕ) where
   pub tell-all : (es : List (Seen Call Reply)) (i : ℕ) (js : List Job) (ls : List (List Entry)) (os : List (Open Call)) (rs : List (Ready Reply)) → Distinct js → ((j : Job) → List·Memᴰ j js → List·Memᴰ (readying i (j .number) Yes) rs) →
-    Loose (K p logs) es (stateOf p logs ls) os rs → TellAll p logs (tolds i (yeses js) ++ es) ls os rs i js
+      Loose (K p logs) es (stateOf p logs ls) os rs → TellAll p logs (tolds i (yeses js) ++ es) ls os rs i js
   unfolding tolds yeses
   tell-all es i [] ls os rs d g lo = record { readies = rs; loose = lo; stay = λ a m n. m }
   tell-all es i (j ∷ js) ls os rs d g lo =
-    let r = tell-all es i js ls os rs (d .1) (λ a m. g a (List·Memᴰ·tail m)) lo in
-    let x = less-of (r .stay (readying i (j .number) Yes) (g j (List·Memᴰ·head refl)) (λ a m e. d .0 a m (ap (λ z. z .number) e))) in
-    record {
-      readies = x .0; loose = loose-out (K p logs) (readying i (j .number) Yes) (r .loose) (x .1);
-      stay = λ a m n. ⊎-elim (λ u. absurd (n j (List·Memᴰ·head refl) u)) (λ u. u) (less-rest (x .1) (r .stay a m (λ b k. n b (List·Memᴰ·tail k))))
-    }
+      let r = tell-all es i js ls os rs (d .1) (λ a m. g a (List·Memᴰ·tail m)) lo in
+      let x = less-of (r .stay (readying i (j .number) Yes) (g j (List·Memᴰ·head refl)) (λ a m e. d .0 a m (ap (λ z. z .number) e))) in
+      record {
+        readies = x .0;
+        loose = loose-out (K p logs) (readying i (j .number) Yes) (r .loose) (x .1);
+        stay = λ a m n. ⊎-elim (λ u. absurd (n j (List·Memᴰ·head refl) u)) (λ u. u) (less-rest (x .1) (r .stay a m (λ b k. n b (List·Memᴰ·tail k))));
+      }

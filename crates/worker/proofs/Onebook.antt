@@ -14,14 +14,15 @@ use Rattle.streams.specs.Hands.{Box, In, From, Shown, Filled, Ask, Beat, Out, T
 use Rattle.interface.specs.Ops.{Gives, lacks, gives, Due, nothing, alone, withPage, Next, page, reply, Page, Ops, logBox}
 use Rattle.worker.specs.Worker.{Job, Batch, none, some, Phase, rest, log, put, ledger, page', written, kept, look, answer', gather, Keep, Mind, Told, Asks, none', show, fill, Step, keepIf, entries, stays, asks, keeping, hearing, looking, waits, fixed, settled', saying, forLog, yeses, isNothing, readLedger, startCall, startBy, start, idleBy, idle, settle, fillLog, putting, onLogBy, onPutBy, write, nextLog, onLedgerBy, onLedger, onPage, tookBy, gatherBy, gathers, onShown, onFilled, refuses, accepts, judges, acts, putsOf, isRest, telling, asking', turnOf, worker, lessOne}
 use Rattle.worker.specs.Laws.{Laws}
-use Rattle.shelf.proofs.Runs.{not-here, fillable-edition}
+use Rattle.shelf.specs.Moments.{Rises}
+use Rattle.shelf.proofs.Places.{not-here, fillable-edition}
 use Rattle.shelf.proofs.History.{past, Kept}
+use Rattle.shelf.proofs.Numbers.{Fresh, fresh}
+use Rattle.shelf.proofs.Latelooks.{Loose}
 use Rattle.shelf.proofs.History
-use Rattle.shelf.proofs.Numbers.{Rises, Fresh, fresh}
-use Rattle.shelf.proofs.Ledger.{Loose, starts}
-use Rattle.shelf.proofs.Ledger
-use Rattle.worker.proofs.Workjobs.{tells-are, sent-are, tolds, waysOf, length-empties, K, stateOf}
-use Rattle.worker.proofs.Workinv.{View, Core, Good, next, Turned, turn-ok, call-ok, Filled', fill-ok, answer-quiet, gone-quiet, come-quiet}
+use Rattle.shelf.proofs.Latelooks
+use Rattle.worker.proofs.Jobs.{tells-are, sent-are, tolds, waysOf, length-empties, K, stateOf}
+use Rattle.worker.proofs.Invariant.{View, Core, Good, next, Turned, turn-ok, call-ok, Filled', fill-ok, answer-quiet, gone-quiet, come-quiet}
 
 -- numbers go up
 abbrev Up : ℕ → Step → Type 0
@@ -74,8 +75,8 @@ module _ (o : Ops) (logs : ℕ) where
   up-log : (m : Mind) (l : ℕ) (x : Box) (b : Batch) → Up (m .asked) (onLogBy o logs m l x b)
   up-log m l x none = up-put m (fixed (m .keep) l (keepIf (λ j. forLog l (j .call)) (m .keep .waiting)) (keepIf (λ j. not (forLog l (j .call))) (m .keep .waiting))) l (keepIf (λ j. forLog l (j .call)) (m .keep .waiting)) x
   up-log m l x (some n ps) = cond-both (eqb l n) (cond (o .has (x .bytes) (m .keep .me) (m .keep .chance) (m .keep .serial)) (settle o logs m ps) (putting o logs m (m .keep) n ps x)) (start o logs m) (Up (m .asked))
-    (λ t. cond-both (o .has (x .bytes) (m .keep .me) (m .keep .chance) (m .keep .serial)) (settle o logs m ps) (putting o logs m (m .keep) n ps x) (Up (m .asked)) (λ t. up-rest (keeping m (settled' (m .keep)))) (λ t. up-put m (m .keep) n ps x))
-    (λ t. up-start m (m .keep .batch) (m .keep .waiting))
+      (λ t. cond-both (o .has (x .bytes) (m .keep .me) (m .keep .chance) (m .keep .serial)) (settle o logs m ps) (putting o logs m (m .keep) n ps x) (Up (m .asked)) (λ t. up-rest (keeping m (settled' (m .keep)))) (λ t. up-put m (m .keep) n ps x))
+      (λ t. up-start m (m .keep .batch) (m .keep .waiting))
 
   up-write : (m : Mind) (e : ℕ) (ts : List Page) (y : List ℕ) → Up (m .asked) (write o logs m e ts y)
   up-write m e [] y = up-asks m (fill 0 e y) kept
@@ -83,7 +84,7 @@ module _ (o : Ops) (logs : ℕ) where
 
   up-next : (m : Mind) (e : ℕ) (y : List ℕ) (c : Bool) → Up (m .asked) (nextLog o logs m e y c)
   up-next m e y c = cond-both (ltb (m .place) logs && not (eqb (m .left) 0)) (asks m (show (logBox (m .place))) (look e y c (m .place))) (cond c (asks m (fill 0 e y) kept) (idle o logs m)) (Up (m .asked))
-    (λ t. up-asks m (show (logBox (m .place))) (look e y c (m .place))) (λ t. cond-both c (asks m (fill 0 e y) kept) (idle o logs m) (Up (m .asked)) (λ t. up-asks m (fill 0 e y) kept) (λ t. up-rest m))
+      (λ t. up-asks m (show (logBox (m .place))) (look e y c (m .place))) (λ t. cond-both c (asks m (fill 0 e y) kept) (idle o logs m) (Up (m .asked)) (λ t. up-asks m (fill 0 e y) kept) (λ t. up-rest m))
 
   up-ledger : (m : Mind) (x : Box) (d : Due) → Up (m .asked) (onLedgerBy o logs m x d)
   up-ledger m x nothing = up-next m (x .edition) (x .bytes) false
@@ -93,8 +94,8 @@ module _ (o : Ops) (logs : ℕ) where
   up-took : (m : Mind) (e : ℕ) (l : List ℕ) (c : Bool) (n : ℕ) (g : Gives) → Up (m .asked) (tookBy o logs m e l c n g)
   up-took m e l c n lacks = up-asks m (show 0) ledger
   up-took m e l c n (gives x) = cond-both (isNothing (o .due x)) (nextLog o logs (looking m (m .floor) (cond (ltb (n + 1) logs) (n + 1) 0) (lessOne o logs (m .left))) e x (c || o .differs l x)) (cond (c || o .differs l x) (asks m (fill 0 e x) kept) (readLedger o logs m)) (Up (m .asked))
-    (λ t. up-next (looking m (m .floor) (cond (ltb (n + 1) logs) (n + 1) 0) (lessOne o logs (m .left))) e x (c || o .differs l x))
-    (λ t. cond-both (c || o .differs l x) (asks m (fill 0 e x) kept) (readLedger o logs m) (Up (m .asked)) (λ t. up-asks m (fill 0 e x) kept) (λ t. up-asks m (show 0) ledger))
+      (λ t. up-next (looking m (m .floor) (cond (ltb (n + 1) logs) (n + 1) 0) (lessOne o logs (m .left))) e x (c || o .differs l x))
+      (λ t. cond-both (c || o .differs l x) (asks m (fill 0 e x) kept) (readLedger o logs m) (Up (m .asked)) (λ t. up-asks m (fill 0 e x) kept) (λ t. up-asks m (show 0) ledger))
 
   up-gather : (m : Mind) (k f n : ℕ) (l : List ℕ) (got : List Event) (y : Next) → Up (m .asked) (gatherBy o logs m k f n l got y)
   up-gather m k f n l got (page b) = up-asks m (show b) (gather k f n l got b)
@@ -136,7 +137,7 @@ module _ (o : Ops) (logs : ℕ) where
 
   up-judge : (m : Mind) (k : ℕ) (c : Call) → Up (m .asked) (judges o logs m k c)
   up-judge m k (Put l e) = cond-both (entryOk e) (cond (ltb l logs) (accepts o logs m k (Put l e)) (refuses o logs m k 2)) (refuses o logs m k 1) (Up (m .asked))
-    (λ t. cond-both (ltb l logs) (accepts o logs m k (Put l e)) (refuses o logs m k 2) (Up (m .asked)) (λ t. up-accept m k (Put l e)) (λ t. up-stays m)) (λ t. up-stays m)
+      (λ t. cond-both (ltb l logs) (accepts o logs m k (Put l e)) (refuses o logs m k 2) (Up (m .asked)) (λ t. up-accept m k (Put l e)) (λ t. up-stays m)) (λ t. up-stays m)
   up-judge m k (Out' f n) = cond-both (leb n 1024) (accepts o logs m k (Out' f n)) (refuses o logs m k 1) (Up (m .asked)) (λ t. up-accept m k (Out' f n)) (λ t. up-stays m)
   up-judge m k (Drop n) = up-stays m
 
@@ -167,29 +168,35 @@ module _ (o : Ops) (p : Plan) (logs : ℕ) (L : Laws o p logs) where
 
   -- a turn, as it is told and sent
   turn-inv : (n : ℕ) (w : L .World) (es : List (Seen Call Reply)) (h : ℕ → ℕ → List ℕ) (s : Scene Mind ℕ) (i c : ℕ) (r : Step) (new : List (Seen Call Reply)) (os0 : List (Open Call)) (rs0 : List (Ready Reply)) → Turned o p logs L (viewOf n w es os0 rs0 h s) i c new r →
-    (os : List (Open Call)) × (rs : List (Ready Reply)) × Good o p logs L (record { w = w; co = record { n = suc n; seen = tells i (turnOf r .does) ++ new; opens = os; readies = rs; past = h; f = s .box; drawn = s .drawn }; hand = at i (here c (r .mind)) (s .hand); ways = sent i c (turnOf r .does) ++ s .ways })
-  turn-inv n w es h s i c r new os0 rs0 t = (t .0, t .1, subst₂ (λ a b. Good o p logs L (record { w = w; co = record { n = suc n; seen = a ++ new; opens = t .0; readies = t .1; past = h; f = s .box; drawn = s .drawn }; hand = at i (here c (r .mind)) (s .hand); ways = b ++ s .ways }))
-    (sym (tells-are i (r .mind .asked) (r .tell) (r .ask))) (sym (sent-are i c (r .mind .asked) (r .tell) (r .ask))) (t .2))
+      (os : List (Open Call)) × (rs : List (Ready Reply)) × Good o p logs L (record { w = w; co = record { n = suc n; seen = tells i (turnOf r .does) ++ new; opens = os; readies = rs; past = h; f = s .box; drawn = s .drawn }; hand = at i (here c (r .mind)) (s .hand); ways = sent i c (turnOf r .does) ++ s .ways })
+  turn-inv n w es h s i c r new os0 rs0 t = (
+    t .0,
+    t .1,
+    subst₂ (λ a b. Good o p logs L (record { w = w; co = record { n = suc n; seen = a ++ new; opens = t .0; readies = t .1; past = h; f = s .box; drawn = s .drawn }; hand = at i (here c (r .mind)) (s .hand); ways = b ++ s .ways }))
+        (sym (tells-are i (r .mind .asked) (r .tell) (r .ask))) (sym (sent-are i c (r .mind .asked) (r .tell) (r .ask))) (t .2),
+  )
 
   first-good : Good o p logs L (viewOf 0 (L .start) [] [] [] (λ b e. []) (record { hand = λ i. away; box = λ b. record { edition = 0; bytes = [] }; ways = []; waits = []; drawn = [] }))
   first-good = record {
-      sound = L .starts;
-      loose = subst (λ z. Loose (K p logs) [] (stateOf p logs z) [] []) (sym (L .starts-logs)) (record { opens = []; readies = []; os-are = Ledger.none; rs-are = Ledger.none; book = Book.empty });
-      many = ap length (L .starts-logs) ∙ length-empties logs; now = λ b. refl;
-      hist = λ b e le. record { was = L .was-now (L .starts) b; must = λ x y. absurd (omega (arith, le, y)); lives = λ l u i c t one x. absurd (L .has-none i c t one x) };
-      facts = λ a m. elim m [ ]; hands = λ i d m y. absurd (not-here y)
-    }
+    sound = L .starts;
+    loose = subst (λ z. Loose (K p logs) [] (stateOf p logs z) [] []) (sym (L .starts-logs)) (record { opens = []; readies = []; os-are = Latelooks.none; rs-are = Latelooks.none; book = Book.empty });
+    many = ap length (L .starts-logs) ∙ length-empties logs;
+    now = λ b. refl;
+    hist = λ b e le. record { was = L .was-now (L .starts) b; must = λ x y. absurd (omega (arith, le, y)); lives = λ l u i c t one x. absurd (L .has-none i c t one x) };
+    facts = λ a m. elim m [ ];
+    hands = λ i d m y. absurd (not-here y);
+  }
 
   pub inv : {all n : ℕ} {es : List (Seen Call Reply)} {s : Scene Mind ℕ} → all ≤ 64 → n < L .bound → (g : Goes (worker o logs) all n es s) → Inv n es (past g) s
   unfolding past
   inv al sm first = (L .start, [], [], first-good)
   inv al sm (turns {n = n} {es = es} {s = s} i c m x lt g e k) = let v = inv al (omega arith) g in
-    let t = turn-inv n (v .0) es (past g) s i c (acts o logs x m) es (v .1) (v .2) (turn-ok o p logs L (vu n es (past g) s v) (v .3) sm i c m e (History.kept g) (fresh (worker o logs) (λ m. m .asked) (worker-rises o logs) g) k) in (v .0, t .0, t .1, t .2)
+      let t = turn-inv n (v .0) es (past g) s i c (acts o logs x m) es (v .1) (v .2) (turn-ok o p logs L (vu n es (past g) s v) (v .3) sm i c m e (History.kept g) (fresh (worker o logs) (λ m. m .asked) (worker-rises o logs) g) k) in (v .0, t .0, t .1, t .2)
   inv al sm (asked {n = n} {es = es} {s = s} i c k x m lt lt' g e new) = let v = inv al (omega arith) g in
-    let t = turn-inv n (v .0) es (past g) s i c (acts o logs (Ask k x) m) (called i k x ∷ es) (v .1) (v .2) (call-ok o p logs L (vu n es (past g) s v) (v .3) sm i c m e (History.kept g) (fresh (worker o logs) (λ m. m .asked) (worker-rises o logs) g) k x (no-use (isUsed k es) new)) in (v .0, t .0, t .1, t .2)
+      let t = turn-inv n (v .0) es (past g) s i c (acts o logs (Ask k x) m) (called i k x ∷ es) (v .1) (v .2) (call-ok o p logs L (vu n es (past g) s v) (v .3) sm i c m e (History.kept g) (fresh (worker o logs) (λ m. m .asked) (worker-rises o logs) g) k x (no-use (isUsed k es) new)) in (v .0, t .0, t .1, t .2)
   inv al sm (showsBox {n = n} {es = es} {s = s} i c k b g w) = let v = inv al (omega arith) g in (v .0, v .1, v .2, answer-quiet o p logs L (vu n es (past g) s v) (v .3) (shows i c k (s .box b)) (λ w co f. tt))
   inv al sm (fills {n = n} {es = es} {s = s} i c k b e bs g w t) = let v = inv al (omega arith) g in
-    fill-ok o p logs L (vu n es (past g) s v) (v .3) (omega arith) i c k b e bs (fillable-edition (s .box b) e bs t) (v .3 .facts (wantsFill i c k b e bs) w)
+      fill-ok o p logs L (vu n es (past g) s v) (v .3) (omega arith) i c k b e bs (fillable-edition (s .box b) e bs t) (v .3 .facts (wantsFill i c k b e bs) w)
   inv al sm (doesntFill {n = n} {es = es} {s = s} i c k b e bs g w t) = let v = inv al (omega arith) g in (v .0, v .1, v .2, answer-quiet o p logs L (vu n es (past g) s v) (v .3) (says i c k false (s .box b .edition)) (λ w co f. tt))
   inv al sm (goes {n = n} {es = es} {s = s} i c m lt g e) = let v = inv al (omega arith) g in (v .0, v .1, v .2, gone-quiet o p logs L (vu n es (past g) s v) (v .3) i)
   inv al sm (comes {n = n} {es = es} {s = s} i r lt lt' new g e) = let v = inv al (omega arith) g in (v .0, v .1, v .2, come-quiet o p logs L (vu n es (past g) s v) (v .3) i r (omega arith) lt' (no-use (isIn r (s .drawn)) new))

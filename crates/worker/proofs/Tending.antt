@@ -15,12 +15,12 @@ use Rattle.interface.specs.Ops.{Gives, lacks, gives, Due, nothing, alone, withP
 use Rattle.worker.specs.Worker.{Phase, ledger, page', written, kept, look, Keep, Mind, Asks, show, fill, Step, asks, hearing, looking, isNothing, readLedger, idle, write, nextLog, onLedgerBy, onPage, tookBy, onShown, onFilled, lessOne}
 use Rattle.interface.specs.Plain.{Plain, Now}
 use Rattle.interface.specs.Live.{Live}
-use Rattle.shelf.proofs.Alones.{at-self}
-use Rattle.shelf.proofs.History.{at-one, past}
-use Rattle.worker.proofs.Workinv.{fill-ok, log-some, Good}
-use Rattle.worker.proofs.Workbook.{inv, viewOf}
+use Rattle.shelf.proofs.Places.{at-self, at-one}
+use Rattle.shelf.proofs.History.{past}
+use Rattle.worker.proofs.Invariant.{fill-ok, log-some, Good}
+use Rattle.worker.proofs.Onebook.{inv, viewOf}
 use Rattle.worker.proofs.Plainlaws.{W, plain-laws}
-use Rattle.worker.proofs.Workalone.{Mid, At, mid-in, Wanted, see, pour, miss}
+use Rattle.worker.proofs.Alone.{Mid, At, mid-in, Wanted, see, pour, miss}
 
 abbrev Fits : List ℕ → Type 0
 Fits x = T (leb (length x) 1048576 && allBytes x)
@@ -45,14 +45,14 @@ module _ (o : Ops) (p : Plan) (logs : ℕ) (P : Plain o p logs) (V : Live o p lo
 
   -- what is asked to be filled at the edition that is there fits, and is right
   pub fit-of : {r : Step} {f : ℕ → Box} {n : ℕ} (b e : ℕ) (bs : List ℕ) → ((b ≡ 0) ⊎ ((l : ℕ) × (l < logs) × (b ≡ logBox l))) → r .ask ≡ fill b e bs → e ≡ f b .edition → suc n < P .bound → A r f n →
-    Fits bs × ((ls : List (List Entry)) × P .Sound (suc n) ls (at b (record { edition = e + 1; bytes = bs }) f))
+      Fits bs × ((ls : List (List Entry)) × P .Sound (suc n) ls (at b (record { edition = e + 1; bytes = bs }) f))
   fit-of {r} {f} {n} b e bs kd is ed sm a =
-    let d = a .mid in
-    let v = inv o p logs (plain-laws o p logs P) al (omega (arith, sm)) (d .goes) in
-    let g = fill-ok o p logs (plain-laws o p logs P) (viewOf o p logs (plain-laws o p logs P) n (v .0) (d .fs ++ es) (v .1) (v .2) (past (d .goes)) (d .to)) (v .3) (omega (arith, sm)) i c (r .mind .asked) b e bs
-        (ed ∙ ap (λ z. z b .edition) (sym (d .boxes))) (v .3 .facts (wantsFill i c (r .mind .asked) b e bs) (mid-in o logs all i c lt es s d (subst (λ z. Wanted o logs all i c lt es s (r .mind .asked) z (d .new)) is (a .wants)))) in
-    let sd : P .Sound (suc n) (g .0 .ls) (at b (record { edition = e + 1; bytes = bs }) f) = subst (P .Sound (suc n) (g .0 .ls)) (g .3 .sound .is ∙ ap (λ z. at b (record { edition = e + 1; bytes = bs }) z) (d .boxes)) (g .3 .sound .sound) in
-    (subst Fits (ap (λ z. z .bytes) (at-self b (record { edition = e + 1; bytes = bs }) f)) (V .fits sm sd b kd), (g .0 .ls, sd))
+      let d = a .mid in
+      let v = inv o p logs (plain-laws o p logs P) al (omega (arith, sm)) (d .goes) in
+      let g = fill-ok o p logs (plain-laws o p logs P) (viewOf o p logs (plain-laws o p logs P) n (v .0) (d .fs ++ es) (v .1) (v .2) (past (d .goes)) (d .to)) (v .3) (omega (arith, sm)) i c (r .mind .asked) b e bs
+      (ed ∙ ap (λ z. z b .edition) (sym (d .boxes))) (v .3 .facts (wantsFill i c (r .mind .asked) b e bs) (mid-in o logs all i c lt es s d (subst (λ z. Wanted o logs all i c lt es s (r .mind .asked) z (d .new)) is (a .wants)))) in
+      let sd : P .Sound (suc n) (g .0 .ls) (at b (record { edition = e + 1; bytes = bs }) f) = subst (P .Sound (suc n) (g .0 .ls)) (g .3 .sound .is ∙ ap (λ z. at b (record { edition = e + 1; bytes = bs }) z) (d .boxes)) (g .3 .sound .sound) in
+      (subst Fits (ap (λ z. z .bytes) (at-self b (record { edition = e + 1; bytes = bs }) f)) (V .fits sm sd b kd), (g .0 .ls, sd))
 
   pub pours : {r : Step} {f : ℕ → Box} {n : ℕ} (b e : ℕ) (bs : List ℕ) → ((b ≡ 0) ⊎ ((l : ℕ) × (l < logs) × (b ≡ logBox l))) → r .ask ≡ fill b e bs → e ≡ f b .edition → suc n < P .bound → A r f n → A (onFilled o logs (hearing (r .mind) true) true (r .mind .phase)) (at b (record { edition = e + 1; bytes = bs }) f) (suc (suc n))
   pours b e bs kd is ed sm a = pour o logs all i c lt es s b e bs is ed (fit-of b e bs kd is ed sm a .0) a
@@ -86,14 +86,14 @@ module _ (o : Ops) (p : Plan) (logs : ℕ) (P : Plain o p logs) (V : Live o p lo
   module _ (tot : ℕ) (tb : tot < P .bound) where
     abbrev Rec : ℕ → Type 0
     Rec k = (m : Mind) (f : ℕ → Box) (n : ℕ) → m .place < logs → A (readLedger o logs m) f n → m .left + V .work (f 0 .bytes) f < k → n + 12 * (m .left + V .work (f 0 .bytes) f) + 12 ≤ tot →
-      Done (m .keep) f tot (Todo (m .left) (m .place) (f 0 .bytes) f)
+        Done (m .keep) f tot (Todo (m .left) (m .place) (f 0 .bytes) f)
 
     -- the ledger was filled with y
     refilled : (k : ℕ) → Rec k → (m : Mind) (f : ℕ → Box) (n e : ℕ) (y : List ℕ) → m .place < logs → A (asks m (fill 0 e y) kept) f n → e ≡ f 0 .edition → m .left + V .work y f < k → n + 12 * (m .left + V .work y f) + 14 ≤ tot →
-      Done (m .keep) f tot (Todo (m .left) (m .place) y f)
+        Done (m .keep) f tot (Todo (m .left) (m .place) y f)
     refilled k rec m f n e y pl a ed ms bud =
         done-on logs-same (λ l u v. ⊎-elim (λ x. inl x) (λ x. inr (subst₂ (λ a b. V .Took a l b) (sym e0) (ap (λ z. z .bytes) (sym (logs-same l))) x)) v)
-          (rec (hearing m' true) f1 (suc (suc n)) pl (pours 0 e y (inl refl) refl ed (omega (arith, bud, tb)) a) (omega (arith, ms, w1)) (omega (arith, bud, w1)))
+        (rec (hearing m' true) f1 (suc (suc n)) pl (pours 0 e y (inl refl) refl ed (omega (arith, bud, tb)) a) (omega (arith, ms, w1)) (omega (arith, bud, w1)))
       where
         m' : Mind
         m' = asks m (fill 0 e y) kept .mind
@@ -112,7 +112,7 @@ module _ (o : Ops) (p : Plan) (logs : ℕ) (P : Plain o p logs) (V : Live o p lo
 
     -- a step's pages, and the step
     writes : (k : ℕ) → Rec k → (ts : List Page) (m : Mind) (f : ℕ → Box) (n e : ℕ) (led x : List ℕ) → m .place < logs → e ≡ f 0 .edition → f 0 .bytes ≡ led → Now f (o .due led) x → ((a : Page) → List·Memᴰ a ts → List·Memᴰ a (o .pages led x)) →
-      A (write o logs m e ts (o .after led x)) f n → m .left + V .work led f < suc k → n + 2 * length ts + 12 * (m .left + V .work led f) + 2 ≤ tot → n + 2 * length ts + 4 ≤ tot → Done (m .keep) f tot (Todo (m .left) (m .place) led f)
+        A (write o logs m e ts (o .after led x)) f n → m .left + V .work led f < suc k → n + 2 * length ts + 12 * (m .left + V .work led f) + 2 ≤ tot → n + 2 * length ts + 4 ≤ tot → Done (m .keep) f tot (Todo (m .left) (m .place) led f)
     writes k rec [] m f n e led x pl ed is now sub a ms bud bud2 =
         done-on (λ l. refl) (λ l u v. ⊎-elim (λ z. inl z) (λ z. inr (step-took l z)) v) (refilled k rec m f n e (o .after led x) pl a ed (omega (arith, less, ms)) (omega (arith, less, bud)))
       where
@@ -124,7 +124,7 @@ module _ (o : Ops) (p : Plan) (logs : ℕ) (P : Plain o p logs) (V : Live o p lo
 
         less : V .work (o .after led x) f < V .work led f
         less = let q = fit-of 0 e (o .after led x) (inl refl) refl ed (omega (arith, bud2, tb)) a .1 in
-          subst (λ z. V .work (o .after z x) f < V .work z f) is (V .work-step (e + 1) (omega (arith, bud2, tb)) (omega (arith, bud2, tb)) (sd .1) x now' (subst (λ z. P .Sound (suc n) (q .0) (at 0 (record { edition = e + 1; bytes = o .after z x }) f)) (sym is) (q .1)))
+            subst (λ z. V .work (o .after z x) f < V .work z f) is (V .work-step (e + 1) (omega (arith, bud2, tb)) (omega (arith, bud2, tb)) (sd .1) x now' (subst (λ z. P .Sound (suc n) (q .0) (at 0 (record { edition = e + 1; bytes = o .after z x }) f)) (sym is) (q .1)))
 
         step-took : (l : ℕ) → V .Took led l (f (logBox l) .bytes) → V .Took (o .after led x) l (f (logBox l) .bytes)
         step-took l z = subst (λ u. V .Took (o .after u x) l (f (logBox l) .bytes)) is (V .took-step (omega (arith, bud2, tb)) (sd .1) x now' l (subst (λ u. V .Took u l (f (logBox l) .bytes)) (sym is) z))
@@ -153,7 +153,7 @@ module _ (o : Ops) (p : Plan) (logs : ℕ) (P : Plain o p logs) (V : Live o p lo
 
         Again : Type 0
         Again = (m : Mind) (f : ℕ → Box) (n e : ℕ) (led x : List ℕ) → m .place < logs → e ≡ f 0 .edition → f 0 .bytes ≡ led → Now f (o .due led) x → ((a : Page) → List·Memᴰ a ts → List·Memᴰ a (o .pages led x)) →
-          A (write o logs m e ts (o .after led x)) f n → m .left + V .work led f < suc k → n + 2 * length ts + 12 * (m .left + V .work led f) + 2 ≤ tot → n + 2 * length ts + 4 ≤ tot → Done (m .keep) f tot (Todo (m .left) (m .place) led f)
+            A (write o logs m e ts (o .after led x)) f n → m .left + V .work led f < suc k → n + 2 * length ts + 12 * (m .left + V .work led f) + 2 ≤ tot → n + 2 * length ts + 4 ≤ tot → Done (m .keep) f tot (Todo (m .left) (m .place) led f)
 
         go : Again → (eqb 0 (f (t .box) .edition) ≡ true) ⊎ (eqb 0 (f (t .box) .edition) ≡ false) → Done (m .keep) f tot (Todo (m .left) (m .place) led f)
         go again (inl y) = done-on logs-same (λ l u v. ⊎-elim (λ z. inl z) (λ z. inr (subst (λ b. V .Took led l (b .bytes)) (sym (logs-same l)) z)) v)
@@ -167,7 +167,7 @@ module _ (o : Ops) (p : Plan) (logs : ℕ) (P : Plain o p logs) (V : Live o p lo
 
             now1 : Now f1 (o .due led) x
             now1 = now-on f f1 (o .due led) x (λ b d. ap (λ z. z .bytes) (other (t .box) (record { edition = 1; bytes = t .bytes }) f b
-              (λ z. let q = P .spent-filled (sd .1) b (P .due-spent (sd .1) b (ap (o .due) is ∙ d)) .1 in let u : f b .edition ≡ 0 = ap (λ w. f w .edition) z ∙ sym ed0 in omega (arith, q, u)))) now
+                (λ z. let q = P .spent-filled (sd .1) b (P .due-spent (sd .1) b (ap (o .due) is ∙ d)) .1 in let u : f b .edition ≡ 0 = ap (λ w. f w .edition) z ∙ sym ed0 in omega (arith, q, u)))) now
         go again (inr y) = again m1 f (suc (suc n)) e led x pl ed is now (λ a z. sub a (List·Memᴰ·tail z)) (miss o logs all i c lt es s (t .box) 0 (t .bytes) refl (eqb-false 0 (f (t .box) .edition) y) a) ms (omega (arith, bud)) (omega (arith, bud2))
 
     -- what is in hand, while logs are looked at: the ledger as it is, or another that is still to be filled
@@ -182,9 +182,18 @@ module _ (o : Ops) (p : Plan) (logs : ℕ) (P : Plain o p logs) (V : Live o p lo
     stops : (k : ℕ) → Rec k → (m : Mind) (f : ℕ → Box) (n : ℕ) (y : List ℕ) (ch : Bool) → m .place < logs → o .due y ≡ nothing → Pend k m f n y ch → A (cond ch (asks m (fill 0 (f 0 .edition) y) kept) (idle o logs m)) f n → Done (m .keep) f tot (λ l. V .Took y l (f (logBox l) .bytes))
     stops k rec m f n y true pl d h a = done-on (λ l. refl) (λ l u v. inr v) (refilled k rec m f n (f 0 .edition) y pl a refl (h .0) (omega (arith, h .1)))
     stops k rec m f n y false pl d h a = record {
-        m = m; f = f; n = n; at' = a; keep = refl; same = λ l. refl; idle' = ap (o .due) (sym (h .0)) ∙ d; fl = h .1 .0; floor = h .1 .1;
-        took = λ l u v. subst (λ z. V .Took z l (f (logBox l) .bytes)) (h .0) v; spent = let q : V .work y f ≡ V .work (f 0 .bytes) f = ap (λ z. V .work z f) (h .0) in omega (arith, q, h .3)
-      }
+      m = m;
+      f = f;
+      n = n;
+      at' = a;
+      keep = refl;
+      same = λ l. refl;
+      idle' = ap (o .due) (sym (h .0)) ∙ d;
+      fl = h .1 .0;
+      floor = h .1 .1;
+      took = λ l u v. subst (λ z. V .Took z l (f (logBox l) .bytes)) (h .0) v;
+      spent = let q : V .work y f ≡ V .work (f 0 .bytes) f = ap (λ z. V .work z f) (h .0) in omega (arith, q, h .3);
+    }
 
     -- one look
     pub record Took1 (f : ℕ → Box) (n l : ℕ) (y x : List ℕ) : Type 0 where
@@ -215,12 +224,13 @@ module _ (o : Ops) (p : Plan) (logs : ℕ) (P : Plain o p logs) (V : Live o p lo
 
       look-took : (x : List ℕ) → o .take y l (f (logBox l) .bytes) ≡ gives x → Took1 f n l y x
       look-took x e = record {
-          ls = ls; sound = subst (P .Sound n ls) (twice 0 (record { edition = f 0 .edition + 1; bytes = x }) (record { edition = f 0 .edition + 1; bytes = y }) f) (P .take-ok (f 0 .edition) l (f1 (logBox l) .bytes) x sm sd d1 ll (P .log-now sd l) (take1 (gives x) e) .0);
-          less = λ t. subst₂ (λ a b. a < b) (V .work-led x (record { edition = f 0 .edition + 1; bytes = y }) f) (ap (λ z. V .work z f1) e0 ∙ V .work-led y (record { edition = f 0 .edition + 1; bytes = y }) f)
+        ls = ls;
+        sound = subst (P .Sound n ls) (twice 0 (record { edition = f 0 .edition + 1; bytes = x }) (record { edition = f 0 .edition + 1; bytes = y }) f) (P .take-ok (f 0 .edition) l (f1 (logBox l) .bytes) x sm sd d1 ll (P .log-now sd l) (take1 (gives x) e) .0);
+        less = λ t. subst₂ (λ a b. a < b) (V .work-led x (record { edition = f 0 .edition + 1; bytes = y }) f) (ap (λ z. V .work z f1) e0 ∙ V .work-led y (record { edition = f 0 .edition + 1; bytes = y }) f)
             (V .work-take sm sd d1 l x ll (take1 (gives x) e) (ap (λ z. o .differs z x) e0 ∙ t));
-          took = λ z. subst (V .Took x l) (el l) (V .took-take sm sd d1 l x ll (take1 (gives x) e) z);
-          others = λ k z. subst (V .Took x k) (el k) (V .took-other sm sd d1 l x ll (take1 (gives x) e) k (subst₂ (λ a b. V .Took a k b) (sym e0) (sym (el k)) z))
-        }
+        took = λ z. subst (V .Took x l) (el l) (V .took-take sm sd d1 l x ll (take1 (gives x) e) z);
+        others = λ k z. subst (V .Took x k) (el k) (V .took-other sm sd d1 l x ll (take1 (gives x) e) k (subst₂ (λ a b. V .Took a k b) (sym e0) (sym (el k)) z));
+      }
 
     pend-next : (k : ℕ) (m m' : Mind) (f : ℕ → Box) (n : ℕ) (y x : List ℕ) (ch b : Bool) → m .left ≡ suc (m' .left) → m' .floor ≡ m .floor → (b ≡ true → V .work x f < V .work y f) → (b ≡ false → y ≡ x) → Pend k m f n y ch → Pend k m' f (suc (suc n)) x (ch || b)
     pend-next k m m' f n y x true b lf fe less same h = let q = le b less same in (omega (arith, h .0, q, lf), omega (arith, h .1, q, lf))
@@ -230,7 +240,7 @@ module _ (o : Ops) (p : Plan) (logs : ℕ) (P : Plain o p logs) (V : Live o p lo
         le false u v = let q : V .work y f ≡ V .work x f = ap (λ z. V .work z f) (v refl) in omega (arith, q)
     pend-next k m m' f n y x false true lf fe less same h = let q = less refl in (omega (arith, h .2, q, lf), omega (arith, h .3, q, lf))
     pend-next k m m' f n y x false false lf fe less same h = let q : V .work y f ≡ V .work x f = ap (λ z. V .work z f) (same refl) in
-      (sym (same refl) ∙ h .0, (h .1 .0, fe ∙ h .1 .1), omega (arith, h .2, q, lf), omega (arith, h .3, q, lf))
+        (sym (same refl) ∙ h .0, (h .1 .0, fe ∙ h .1 .1), omega (arith, h .2, q, lf), omega (arith, h .3, q, lf))
 
     pend-full : (k : ℕ) (m : Mind) (f : ℕ → Box) (n : ℕ) (y x : List ℕ) (ch : Bool) → V .work x f < V .work y f → Pend k m f n y ch → (m .left + V .work x f < k) × (suc (suc n) + 12 * (m .left + V .work x f) + 14 ≤ tot)
     pend-full k m f n y x true less h = (omega (arith, h .0, less), omega (arith, h .1, less))
@@ -245,18 +255,18 @@ module _ (o : Ops) (p : Plan) (logs : ℕ) (P : Plain o p logs) (V : Live o p lo
     next-in pl = cond-both (ltb (pl + 1) logs) (pl + 1) 0 (λ z. z < logs) (λ t. ltb-true (pl + 1) logs t) (λ t. omega (arith, one))
 
     looks : (k : ℕ) → Rec k → (j : ℕ) (m : Mind) → m .left ≡ j → m .place < logs → (f : ℕ → Box) (n : ℕ) (y : List ℕ) (ch : Bool) → A (nextLog o logs m (f 0 .edition) y ch) f n →
-      (ls : List (List Entry)) → P .Sound n ls (at 0 (record { edition = f 0 .edition + 1; bytes = y }) f) → o .due y ≡ nothing → Pend k m f n y ch → Done (m .keep) f tot (Todo j (m .place) y f)
+        (ls : List (List Entry)) → P .Sound n ls (at 0 (record { edition = f 0 .edition + 1; bytes = y }) f) → o .due y ≡ nothing → Pend k m f n y ch → Done (m .keep) f tot (Todo j (m .place) y f)
     looks k rec zero m lf pl f n y ch a ls sd d h = done-on (λ l. refl) (λ l u v. ⊎-elim (λ z. absurd z) (λ z. z) v)
-      (stops k rec m f n y ch pl d h (subst (λ z. A z f n) (cond-false (ltb (m .place) logs && not (eqb (m .left) 0)) (asks m (show (logBox (m .place))) (look (f 0 .edition) y ch (m .place))) (cond ch (asks m (fill 0 (f 0 .edition) y) kept) (idle o logs m))
+        (stops k rec m f n y ch pl d h (subst (λ z. A z f n) (cond-false (ltb (m .place) logs && not (eqb (m .left) 0)) (asks m (show (logBox (m .place))) (look (f 0 .edition) y ch (m .place))) (cond ch (asks m (fill 0 (f 0 .edition) y) kept) (idle o logs m))
         (and-right (ltb (m .place) logs) (not (eqb (m .left) 0)) (not-from-true (eqb (m .left) 0) (eq-eqb (m .left) 0 lf)))) a))
     looks k rec (suc j) m lf pl f n y ch a ls sd d h =
         by (looks k rec j) (o .take y (m .place) (f (logBox (m .place)) .bytes)) refl
-          (see o logs all i c lt es s (logBox (m .place)) refl (subst (λ z. A z f n) (cond-true (ltb (m .place) logs && not (eqb (m .left) 0)) (asks m (show (logBox (m .place))) (look (f 0 .edition) y ch (m .place))) (cond ch (asks m (fill 0 (f 0 .edition) y) kept) (idle o logs m))
-            (and-from (ltb (m .place) logs) (not (eqb (m .left) 0)) (lt-ltb (m .place) logs pl) (not-from-false (eqb (m .left) 0) (ne-eqb (m .left) 0 (λ z. omega (arith, z, lf)))))) a))
+        (see o logs all i c lt es s (logBox (m .place)) refl (subst (λ z. A z f n) (cond-true (ltb (m .place) logs && not (eqb (m .left) 0)) (asks m (show (logBox (m .place))) (look (f 0 .edition) y ch (m .place))) (cond ch (asks m (fill 0 (f 0 .edition) y) kept) (idle o logs m))
+        (and-from (ltb (m .place) logs) (not (eqb (m .left) 0)) (lt-ltb (m .place) logs pl) (not-from-false (eqb (m .left) 0) (ne-eqb (m .left) 0 (λ z. omega (arith, z, lf)))))) a))
       where
         Again : Type 0
         Again = (m : Mind) → m .left ≡ j → m .place < logs → (f : ℕ → Box) (n : ℕ) (y : List ℕ) (ch : Bool) → A (nextLog o logs m (f 0 .edition) y ch) f n →
-          (ls : List (List Entry)) → P .Sound n ls (at 0 (record { edition = f 0 .edition + 1; bytes = y }) f) → o .due y ≡ nothing → Pend k m f n y ch → Done (m .keep) f tot (Todo j (m .place) y f)
+            (ls : List (List Entry)) → P .Sound n ls (at 0 (record { edition = f 0 .edition + 1; bytes = y }) f) → o .due y ≡ nothing → Pend k m f n y ch → Done (m .keep) f tot (Todo j (m .place) y f)
 
         e : ℕ
         e = f 0 .edition
@@ -289,12 +299,12 @@ module _ (o : Ops) (p : Plan) (logs : ℕ) (P : Plain o p logs) (V : Live o p lo
 
             due-by : (isNothing (o .due x) ≡ true) ⊎ (isNothing (o .due x) ≡ false) → Done (m .keep) f tot (Todo (suc j) (m .place) y f)
             due-by (inl u) = let q = less-one (m .left) lf in let dx = not-nothing (o .due x) u in
-              done-on (λ l. refl) (λ l w v. ⊎-elim (λ z. ⊎-elim (λ v. inr (subst (λ b. V .Took x b (f (logBox b) .bytes)) (sym v) (T1 .took dx))) (λ v. inl v) z) (λ z. inr (T1 .others l z)) v)
+                done-on (λ l. refl) (λ l w v. ⊎-elim (λ z. ⊎-elim (λ v. inr (subst (λ b. V .Took x b (f (logBox b) .bytes)) (sym v) (T1 .took dx))) (λ v. inl v) z) (λ z. inr (T1 .others l z)) v)
                 (again m3 q (next-in (m .place)) f (suc (suc n)) x (ch || o .differs y x) (subst (λ z. A z f (suc (suc n))) (cond-true (isNothing (o .due x)) goes-on stops-here u) a2) (T1 .ls) (T1 .sound) dx
-                  (pend-next k m m3 f n y x ch (o .differs y x) (omega (arith, lf, q)) refl (T1 .less) (V .differs-not y x) h))
+                (pend-next k m m3 f n y x ch (o .differs y x) (omega (arith, lf, q)) refl (T1 .less) (V .differs-not y x) h))
             due-by (inr u) = let df : o .differs y x ≡ true = ⊎-elim (λ z. z) (λ z. absurd (both-ways (isNothing (o .due x)) u (ap isNothing (ap (o .due) (sym (V .differs-not y x z)) ∙ d)))) (cases-bool (o .differs y x)) in
-              let q = pend-full k m f n y x ch (T1 .less df) h in
-              done-on (λ l. refl) (λ l w v. ⊎-elim (λ z. inl (subst (λ b. ahead b (m .place) l) (sym lf) z)) (λ z. inr (T1 .others l z)) v)
+                let q = pend-full k m f n y x ch (T1 .less df) h in
+                done-on (λ l. refl) (λ l w v. ⊎-elim (λ z. inl (subst (λ b. ahead b (m .place) l) (sym lf) z)) (λ z. inr (T1 .others l z)) v)
                 (refilled k rec m2 f (suc (suc n)) e x pl (subst (λ z. A z f (suc (suc n))) (cond-false (isNothing (o .due x)) goes-on stops-here u ∙ cond-true (ch || o .differs y x) (asks m2 (fill 0 e x) kept) (readLedger o logs m2) (or-right ch (o .differs y x) df)) a2) refl (q .0) (q .1))
 
     pub ledger-done : (k : ℕ) → Rec k
@@ -310,11 +320,11 @@ module _ (o : Ops) (p : Plan) (logs : ℕ) (P : Plain o p logs) (V : Live o p lo
         by : Rec k → (d : Due) → o .due (f 0 .bytes) ≡ d → A (onLedgerBy o logs m2 (f 0) d) f (suc (suc n)) → Done (m .keep) f tot (Todo (m .left) (m .place) (f 0 .bytes) f)
         by rec nothing e a2 = looks k rec (m .left) m2 refl pl f (suc (suc n)) (f 0 .bytes) false a2 (sd .0) (P .same-ok (f 0 .edition) (P .later (P .later (sd .1))) .0) e (refl, (m .floor, refl), ms, omega (arith, bud))
         by rec alone e a2 = let few = V .few-pages (f 0 .bytes) [] in
-          writes k rec (o .pages (f 0 .bytes) []) m2 f (suc (suc n)) (f 0 .edition) (f 0 .bytes) [] pl refl refl (subst (λ z. Now f z []) (sym e) refl) (λ a m. m) a2 ms (omega (arith, bud, few)) (omega (arith, bud, few, ms))
+            writes k rec (o .pages (f 0 .bytes) []) m2 f (suc (suc n)) (f 0 .edition) (f 0 .bytes) [] pl refl refl (subst (λ z. Now f z []) (sym e) refl) (λ a m. m) a2 ms (omega (arith, bud, few)) (omega (arith, bud, few, ms))
         by rec (withPage b) e a2 = let few = V .few-pages (f 0 .bytes) (f b .bytes) in let ed = P .spent-filled (sd .1) b (P .due-spent (sd .1) b e) .1 in
-          writes k rec (o .pages (f 0 .bytes) (f b .bytes)) m3 f (suc (suc (suc (suc n)))) (f 0 .edition) (f 0 .bytes) (f b .bytes) pl refl refl (subst (λ z. Now f z (f b .bytes)) (sym e) refl) (λ a m. m)
+            writes k rec (o .pages (f 0 .bytes) (f b .bytes)) m3 f (suc (suc (suc (suc n)))) (f 0 .edition) (f 0 .bytes) (f b .bytes) pl refl refl (subst (λ z. Now f z (f b .bytes)) (sym e) refl) (λ a m. m)
             (subst (λ z. A z f (suc (suc (suc (suc n))))) (cond-false (eqb (f b .edition) 0) (readLedger o logs m3) (write o logs m3 (f 0 .edition) (o .pages (f 0 .bytes) (f b .bytes)) (o .after (f 0 .bytes) (f b .bytes))) (ne-eqb (f b .edition) 0 (λ z. omega (arith, z, ed))))
-              (see o logs all i c lt es s b refl a2)) ms (omega (arith, bud, few)) (omega (arith, bud, few, ms))
+            (see o logs all i c lt es s b refl a2)) ms (omega (arith, bud, few)) (omega (arith, bud, few, ms))
           where
             m3 : Mind
             m3 = hearing (asks m2 (show b) (page' (f 0 .edition) (f 0 .bytes) b) .mind) true

@@ -14,13 +14,12 @@ use Rattle.streams.specs.Hands.{Box, In, From, Shown, Filled, Ask, Beat, Out, T
 use Rattle.interface.specs.Ops.{Gives, lacks, gives, Due, nothing, alone, withPage, Next, page, reply, Page, Ops, logBox, putAll, IsPage, Gathered, noPage, onePage, Tag}
 use Rattle.worker.specs.Worker.{stays, asks, keeping, hearing, looking, waits, fixed, settled', saying, forLog, yeses, isNothing, readLedger, startCall, startBy, start, idleBy, idle, settle, fillLog, putting, onLogBy, onPutBy, write, nextLog, onLedgerBy, onLedger, onPage, tookBy, gatherBy, gathers, onShown, onFilled, refuses, accepts, judges, acts, putsOf, isRest, telling, asking', turnOf, worker, lessOne, Job, Batch, none, some, Phase, rest, log, put, ledger, page', written, kept, look, answer', gather, Keep, Mind, Told, Asks, none', show, fill, Step, keepIf, entries}
 use Rattle.worker.specs.Laws.{Right, Laws}
-use Rattle.shelf.proofs.Runs.{all-cons, all-none, all-append, at-case, at-hands, not-here, Who, nobody, by, caller, caller-used, caller-stays, caller-new}
-use Rattle.shelf.proofs.Alones.{at-self}
-use Rattle.shelf.proofs.History.{at-one}
-use Rattle.shelf.proofs.Ledger.{Loose, Less, taken, less-of, less-rest, loose-in, loose-done, loose-out, loose-back}
-use Rattle.shelf.proofs.Numbers.{Fresh}
+use Rattle.shelf.proofs.Places.{all-cons, all-none, all-append, at-case, at-hands, not-here, at-self, at-one}
+use Rattle.shelf.proofs.Callers.{Who, nobody, by, caller, caller-used, caller-stays, caller-new}
 use Rattle.shelf.proofs.History.{Kept, WasShown, WasFilled, WasNot}
-use Rattle.worker.proofs.Workjobs.{keep-split, keep-less, length-snoc, entries-few, in-keep, distinct-keep, distinct-same, distinct-snoc, tell-all, TellAll, tolds, tells-are, sent-are, opening, readying, Distinct, IsPut, is-put, entries-ok, length-puts, K, stateOf, DoneAll, done-all, waysOf}
+use Rattle.shelf.proofs.Numbers.{Fresh}
+use Rattle.shelf.proofs.Latelooks.{Loose, Less, taken, less-of, less-rest, loose-in, loose-done, loose-out, loose-back}
+use Rattle.worker.proofs.Jobs.{keep-split, keep-less, length-snoc, entries-few, in-keep, distinct-keep, distinct-same, distinct-snoc, tell-all, TellAll, tolds, tells-are, sent-are, opening, readying, Distinct, IsPut, is-put, entries-ok, length-puts, K, stateOf, DoneAll, done-all, waysOf}
 
 pub at-mine : {A : Type 0} (i c : ℕ) (m : A) (f : ℕ → Stand A) (d : ℕ) (n : A) → at i (here c m) f i ≡ here d n → (c ≡ d) × (m ≡ n)
 at-mine {A} i c m f d n e = let u : _≡_ {A = Stand A} (here c m) (here d n) = sym (at-self i (here c m) f) ∙ e in (cc, cc)
@@ -285,11 +284,27 @@ module _ (o : Ops) (p : Plan) (logs : ℕ) (L : Laws o p logs) where
   module _ {u w : L .World} {v v' : Core} {h' h'' : ℕ → Stand Mind} (g : Grows u w v v' h' h'') where
     log-on : {i c b e : ℕ} {bs : List ℕ} → LogFill u v h' i c b e bs → LogFill w v' h'' i c b e bs
     log-on {i} {c} {b} {e} {bs} h = let a = h .ask in record {
-        ask = record { l = a .l; s = a .s; ps = a .ps; fl = a .fl; bytes = a .bytes; box-is = a .box-is; in-logs = a .in-logs; old = old-on (g .boxes) (a .old); floor = L .floor-on (g .boxes .ups) (a .fl) (a .floor); adds = a .adds; tag = tag-on (g .ns) (a .tag); born = g .drawns c (a .born); few = a .few;
-          distinct = a .distinct; puts = a .puts; made = λ j m. g .callers i (j .number) (j .call) (a .made j m);
-          open' = λ q j m. g .opens i (j .number) (a .l) (j .call) (a .puts j m) (a .made j m) (let r = g .boxes .eds (logBox (a .l)) in let t = a .old .upto in omega arith) (a .open' (let r = g .boxes .eds (logBox (a .l)) in let t = a .old .upto in omega arith) j m) };
-        mine = λ d m y. mine-on (g .boxes) (a .old .upto) (g .mines i c (a .s) (a .l) e (a .ps) (a .born) (a .made) (h .mine) d m y)
-      }
+      ask = record {
+        l = a .l;
+        s = a .s;
+        ps = a .ps;
+        fl = a .fl;
+        bytes = a .bytes;
+        box-is = a .box-is;
+        in-logs = a .in-logs;
+        old = old-on (g .boxes) (a .old);
+        floor = L .floor-on (g .boxes .ups) (a .fl) (a .floor);
+        adds = a .adds;
+        tag = tag-on (g .ns) (a .tag);
+        born = g .drawns c (a .born);
+        few = a .few;
+        distinct = a .distinct;
+        puts = a .puts;
+        made = λ j m. g .callers i (j .number) (j .call) (a .made j m);
+        open' = λ q j m. g .opens i (j .number) (a .l) (j .call) (a .puts j m) (a .made j m) (let r = g .boxes .eds (logBox (a .l)) in let t = a .old .upto in omega arith) (a .open' (let r = g .boxes .eds (logBox (a .l)) in let t = a .old .upto in omega arith) j m);
+      };
+      mine = λ d m y. mine-on (g .boxes) (a .old .upto) (g .mines i c (a .s) (a .l) e (a .ps) (a .born) (a .made) (h .mine) d m y);
+    }
 
     pub fact-on : (a : Way ℕ) → Fact u v h' a → Fact w v' h'' a
     fact-on (word j i m) h = tt
@@ -328,18 +343,35 @@ module _ (o : Ops) (p : Plan) (logs : ℕ) (L : Laws o p logs) where
     pub readies : (j k : ℕ) (r : Reply) → (j ≡ i → ⊥) → List·Memᴰ (readying j k r) (v .readies) → List·Memᴰ (readying j k r) (v' .readies)
 
   module _ (v : View) (h : Good v) (i c : ℕ) (m : Mind) (e : v .hand i ≡ here c m) (es : List (Seen Call Reply)) (os : List (Open Call)) (rs : List (Ready Reply))
-    (lo : Loose (K p logs) es (stateOf p logs (L .logsOf (v .w))) os rs) (st : Stays (v .co) i (next (v .co) es os rs)) where
-
+      (lo : Loose (K p logs) es (stateOf p logs (L .logsOf (v .w))) os rs) (st : Stays (v .co) i (next (v .co) es os rs)) where
     abbrev nco : Core
     nco = next (v .co) es os rs
 
     other-keep : (j d : ℕ) (k : Keep) → (j ≡ i → ⊥) → KeepOk (v .co) j d k → KeepOk nco j d k
     other-keep j d k ne q = record {
-        me = q .me; chance = q .chance; hand = q .hand; life = q .life; serial = omega (arith, q .serial); born = q .born; few = q .few; ok = q .ok; made = λ a y. st .callers j (a .number) (a .call) (q .made a y); open' = λ a y. st .opens j (a .number) (a .call) ne (q .open' a y);
-        distinct = q .distinct; top = q .top;
-        batch = λ l ps y. let b = q .batch l ps y in record { in-logs = b .in-logs; from = b .from; distinct = b .distinct; puts = b .puts; made = λ a z. st .callers j (a .number) (a .call) (b .made a z); clear = b .clear;
-          inn = λ g z t a u. st .readies j (a .number) Yes ne (b .inn g z t a u); out' = λ t a u. st .opens j (a .number) (a .call) ne (b .out' t a u) }
-      }
+      me = q .me;
+      chance = q .chance;
+      hand = q .hand;
+      life = q .life;
+      serial = omega (arith, q .serial);
+      born = q .born;
+      few = q .few;
+      ok = q .ok;
+      made = λ a y. st .callers j (a .number) (a .call) (q .made a y);
+      open' = λ a y. st .opens j (a .number) (a .call) ne (q .open' a y);
+      distinct = q .distinct;
+      top = q .top;
+      batch = λ l ps y. let b = q .batch l ps y in record {
+        in-logs = b .in-logs;
+        from = b .from;
+        distinct = b .distinct;
+        puts = b .puts;
+        made = λ a z. st .callers j (a .number) (a .call) (b .made a z);
+        clear = b .clear;
+        inn = λ g z t a u. st .readies j (a .number) Yes ne (b .inn g z t a u);
+        out' = λ t a u. st .opens j (a .number) (a .call) ne (b .out' t a u);
+      };
+    }
 
     abbrev pub movedTo : Step → View
     movedTo r = record { w = v .w; co = nco; hand = at i (here c (r .mind)) (v .hand); ways = waysOf i c (r .mind .asked) (r .ask) ++ v .ways }
@@ -347,7 +379,7 @@ module _ (o : Ops) (p : Plan) (logs : ℕ) (L : Laws o p logs) where
     module _ (r : Step) (x : Does (v .co .seen) (v .w) nco (v .ways) i c (m .keep) r) where
       moved-mines : (j d s l g : ℕ) (ps : List Job) → isIn d (v .co .drawn) ≡ true → Made (v .co .seen) j ps → ((d' : ℕ) (n : Mind) → v .hand j ≡ here d' n → Mine (v .co .f) j d s l g ps d' (n .keep)) → (d' : ℕ) (n : Mind) → at i (here c (r .mind)) (v .hand) j ≡ here d' n → Mine (v .co .f) j d s l g ps d' (n .keep)
       moved-mines j d s l g ps bn made mine d' n y = at-hands (λ j d' n. Made (v .co .seen) j ps → ((d' : ℕ) (n : Mind) → v .hand j ≡ here d' n → Mine (v .co .f) j d s l g ps d' (n .keep)) → Mine (v .co .f) j d s l g ps d' (n .keep)) i c (r .mind) (v .hand)
-        (λ made mine. x .mines d s l g ps made (mine c m e)) (λ j d' n ne z made mine. mine d' n z) j d' n y made mine
+          (λ made mine. x .mines d s l g ps made (mine c m e)) (λ j d' n ne z made mine. mine d' n z) j d' n y made mine
 
       moved-grows : Grows (v .w) (v .w) (v .co) nco (v .hand) (at i (here c (r .mind)) (v .hand))
       moved-grows = record { ns = omega arith; boxes = boxes-refl (v .w) (v .co .f); callers = st .callers; opens = λ j k l q y z u. st .puts j k l q y; drawns = λ d y. y; mines = moved-mines }
@@ -356,16 +388,20 @@ module _ (o : Ops) (p : Plan) (logs : ℕ) (L : Laws o p logs) where
       new-facts none' y = all-none (Fact (v .w) nco (at i (here c (r .mind)) (v .hand)))
       new-facts (show b) y = all-cons (Fact (v .w) nco (at i (here c (r .mind)) (v .hand))) tt (all-none (Fact (v .w) nco (at i (here c (r .mind)) (v .hand))))
       new-facts (fill b g bs) y = all-cons (Fact (v .w) nco (at i (here c (r .mind)) (v .hand)))
-        (⊎-elim (λ z. inl (record { ask = z .0; mine = λ d n u. let q = at-mine i c (r .mind) (v .hand) d n u in inl (q .0, z .1 ∙ ap (λ k. k .keep .serial) (q .1), ap (λ k. k .keep .batch) (sym (q .1)) ∙ z .2) })) (λ z. inr z) y)
-        (all-none (Fact (v .w) nco (at i (here c (r .mind)) (v .hand))))
+          (⊎-elim (λ z. inl (record { ask = z .0; mine = λ d n u. let q = at-mine i c (r .mind) (v .hand) d n u in inl (q .0, z .1 ∙ ap (λ k. k .keep .serial) (q .1), ap (λ k. k .keep .batch) (sym (q .1)) ∙ z .2) })) (λ z. inr z) y)
+          (all-none (Fact (v .w) nco (at i (here c (r .mind)) (v .hand))))
 
       pub moved : Good (movedTo r)
       moved = record {
-          sound = L .later (h .sound); loose = lo; many = h .many; now = h .now; hist = h .hist;
-          facts = all-append (Fact (v .w) nco (at i (here c (r .mind)) (v .hand))) (waysOf i c (r .mind .asked) (r .ask)) (v .ways) (new-facts (r .ask) (x .asks)) (λ a y. fact-on moved-grows a (h .facts a y));
-          hands = at-hands (HandOk (movedTo r)) i c (r .mind) (v .hand) (record { keep = x .keep; floor = x .floor; phase = x .phase })
-            (λ j d n ne y. let k = h .hands j d n y in record { keep = other-keep j d (n .keep) ne (k .keep); floor = k .floor; phase = phase-on (boxes-refl (v .w) (v .co .f)) (λ a z. Memᴰ·append-right (waysOf i c (r .mind .asked) (r .ask)) z) j d (n .asked) (n .keep) (n .phase) (k .phase) })
-        }
+        sound = L .later (h .sound);
+        loose = lo;
+        many = h .many;
+        now = h .now;
+        hist = h .hist;
+        facts = all-append (Fact (v .w) nco (at i (here c (r .mind)) (v .hand))) (waysOf i c (r .mind .asked) (r .ask)) (v .ways) (new-facts (r .ask) (x .asks)) (λ a y. fact-on moved-grows a (h .facts a y));
+        hands = at-hands (HandOk (movedTo r)) i c (r .mind) (v .hand) (record { keep = x .keep; floor = x .floor; phase = x .phase })
+            (λ j d n ne y. let k = h .hands j d n y in record { keep = other-keep j d (n .keep) ne (k .keep); floor = k .floor; phase = phase-on (boxes-refl (v .w) (v .co .f)) (λ a z. Memᴰ·append-right (waysOf i c (r .mind .asked) (r .ask)) z) j d (n .asked) (n .keep) (n .phase) (k .phase) });
+      }
 
   -- A FILLING SUCCEEDS
   pub record Stood (v : View) (b : ℕ) (bs : List ℕ) (f' : ℕ → Box) (os : List (Open Call)) (rs : List (Ready Reply)) (j d : ℕ) (m : Mind) : Type 0 where
@@ -389,10 +425,10 @@ module _ (o : Ops) (p : Plan) (logs : ℕ) (L : Laws o p logs) where
 
     fill-boxes : Boxes (v .w) w (v .co .f) f'
     fill-boxes = record {
-        ups = up;
-        eds = λ d. at-one (λ z. v .co .f d .edition ≤ z .edition) b (record { edition = e + 1; bytes = bs }) (v .co .f) d (λ x. let y : v .co .f d .edition ≡ e = ap (λ z. v .co .f z .edition) x ∙ sym is-now in omega arith) (λ x. omega arith);
-        sames = λ d. at-one (λ z. v .co .f d .edition ≡ z .edition → v .co .f d .bytes ≡ z .bytes) b (record { edition = e + 1; bytes = bs }) (v .co .f) d (λ x u. absurd (let y : v .co .f d .edition ≡ e = ap (λ z. v .co .f z .edition) x ∙ sym is-now in omega arith)) (λ x u. refl)
-      }
+      ups = up;
+      eds = λ d. at-one (λ z. v .co .f d .edition ≤ z .edition) b (record { edition = e + 1; bytes = bs }) (v .co .f) d (λ x. let y : v .co .f d .edition ≡ e = ap (λ z. v .co .f z .edition) x ∙ sym is-now in omega arith) (λ x. omega arith);
+      sames = λ d. at-one (λ z. v .co .f d .edition ≡ z .edition → v .co .f d .bytes ≡ z .bytes) b (record { edition = e + 1; bytes = bs }) (v .co .f) d (λ x u. absurd (let y : v .co .f d .edition ≡ e = ap (λ z. v .co .f z .edition) x ∙ sym is-now in omega arith)) (λ x u. refl);
+    }
 
     hist-on : (Q : ℕ → ℕ → List ℕ → Type 0) → ((d g : ℕ) → g ≤ v .co .f d .edition → Q d g (v .co .past d g)) → Q b (e + 1) bs → (d g : ℕ) → g ≤ f' d .edition → Q d g (past' d g)
     hist-on Q old new d g = go (eqb d b) refl
@@ -406,39 +442,62 @@ module _ (o : Ops) (p : Plan) (logs : ℕ) (L : Laws o p logs) where
         go false x le = old d g le
 
     module _ (sound : L .Sound (suc (v .co .n)) w f') (lo : Loose (K p logs) (v .co .seen) (stateOf p logs (L .logsOf w)) os rs) (many : length (L .logsOf w) ≡ logs) (new : HistOk w (v .co .drawn) b (e + 1) bs)
-      (opens : (j k l : ℕ) (x : Call) → IsPut l x → caller k (v .co .seen) ≡ by j x → (b ≡ logBox l → ⊥) → List·Memᴰ (opening j k x) (v .co .opens) → List·Memᴰ (opening j k x) os)
-      (still : (a : Ready Reply) → List·Memᴰ a (v .co .readies) → List·Memᴰ a rs) (stood : (j d : ℕ) (m : Mind) → v .hand j ≡ here d m → Stood v b bs f' os rs j d m) where
-
+        (opens : (j k l : ℕ) (x : Call) → IsPut l x → caller k (v .co .seen) ≡ by j x → (b ≡ logBox l → ⊥) → List·Memᴰ (opening j k x) (v .co .opens) → List·Memᴰ (opening j k x) os)
+        (still : (a : Ready Reply) → List·Memᴰ a (v .co .readies) → List·Memᴰ a rs) (stood : (j d : ℕ) (m : Mind) → v .hand j ≡ here d m → Stood v b bs f' os rs j d m) where
       fill-grows : Grows (v .w) w (v .co) fco (v .hand) (v .hand)
       fill-grows = record {
-          ns = omega arith; boxes = fill-boxes; callers = λ j k x y. y;
-          opens = λ j k l x y z u. opens j k l x y z (λ t. absurd (let r : v .co .f (logBox l) .edition ≡ e = ap (λ z. v .co .f z .edition) (sym t) ∙ sym is-now in let s : f' (logBox l) .edition ≡ e + 1 = ap (λ z. f' z .edition) (sym t) ∙ ap (λ z. z .edition) (at-self b (record { edition = e + 1; bytes = bs }) (v .co .f)) in omega arith));
-          drawns = λ d y. y; mines = λ j x s l g ps bn made mine. mine
-        }
+        ns = omega arith;
+        boxes = fill-boxes;
+        callers = λ j k x y. y;
+        opens = λ j k l x y z u. opens j k l x y z (λ t. absurd (let r : v .co .f (logBox l) .edition ≡ e = ap (λ z. v .co .f z .edition) (sym t) ∙ sym is-now in let s : f' (logBox l) .edition ≡ e + 1 = ap (λ z. f' z .edition) (sym t) ∙ ap (λ z. z .edition) (at-self b (record { edition = e + 1; bytes = bs }) (v .co .f)) in omega arith));
+        drawns = λ d y. y;
+        mines = λ j x s l g ps bn made mine. mine;
+      }
 
       fill-keep : (j d : ℕ) (m : Mind) → Stood v b bs f' os rs j d m → KeepOk (v .co) j d (m .keep) → KeepOk fco j d (m .keep)
       fill-keep j d m x k = record {
-          me = k .me; chance = k .chance; hand = k .hand; life = k .life; serial = omega (arith, k .serial); born = k .born; few = k .few; ok = k .ok; made = k .made; open' = x .waits; distinct = k .distinct;
-          top = λ l g t le one. hist-on (λ b g y. (l : ℕ) → b ≡ logBox l → o .has y j d t ≡ true → t ≤ m .keep .serial) (λ b g z l u y. k .top l g t (subst (λ z. g ≤ v .co .f z .edition) u z) one (ap (λ z. o .has (v .co .past z g) j d t) (sym u) ∙ y)) (λ l u. x .top l u t one) (logBox l) g le l refl;
-          batch = λ l ps y. let a = k .batch l ps y in record { in-logs = a .in-logs; from = a .from; distinct = a .distinct; puts = a .puts; made = a .made; clear = a .clear;
-            inn = λ g le. hist-on (λ b g z. b ≡ logBox l → o .has z j d (m .keep .serial) ≡ true → Readied rs j ps) (λ b g z u t n w. still (readying j (n .number) Yes) (a .inn g (subst (λ z. g ≤ v .co .f z .edition) u z) (ap (λ z. o .has (v .co .past z g) j d (m .keep .serial)) (sym u) ∙ t) n w)) (x .inn l ps y) (logBox l) g le refl;
-            out' = x .out' l ps y }
-        }
+        me = k .me;
+        chance = k .chance;
+        hand = k .hand;
+        life = k .life;
+        serial = omega (arith, k .serial);
+        born = k .born;
+        few = k .few;
+        ok = k .ok;
+        made = k .made;
+        open' = x .waits;
+        distinct = k .distinct;
+        top = λ l g t le one. hist-on (λ b g y. (l : ℕ) → b ≡ logBox l → o .has y j d t ≡ true → t ≤ m .keep .serial) (λ b g z l u y. k .top l g t (subst (λ z. g ≤ v .co .f z .edition) u z) one (ap (λ z. o .has (v .co .past z g) j d t) (sym u) ∙ y)) (λ l u. x .top l u t one) (logBox l) g le l refl;
+        batch = λ l ps y. let a = k .batch l ps y in record {
+          in-logs = a .in-logs;
+          from = a .from;
+          distinct = a .distinct;
+          puts = a .puts;
+          made = a .made;
+          clear = a .clear;
+          inn = λ g le. hist-on (λ b g z. b ≡ logBox l → o .has z j d (m .keep .serial) ≡ true → Readied rs j ps) (λ b g z u t n w. still (readying j (n .number) Yes) (a .inn g (subst (λ z. g ≤ v .co .f z .edition) u z) (ap (λ z. o .has (v .co .past z g) j d (m .keep .serial)) (sym u) ∙ t) n w)) (x .inn l ps y) (logBox l) g le refl;
+          out' = x .out' l ps y;
+        };
+      }
 
       pub filled : Good filledTo
       filled = record {
-          sound = sound; loose = lo; many = many;
-          now = λ d. elim (eqb d b) as (λ t. cond t (at (e + 1) bs (v .co .past b)) (v .co .past d) (cond t (record { edition = e + 1; bytes = bs }) (v .co .f d) .edition) ≡ cond t (record { edition = e + 1; bytes = bs }) (v .co .f d) .bytes) [ true ↦ at-self (e + 1) bs (v .co .past b) | false ↦ h .now d ];
-          hist = hist-on (HistOk w (v .co .drawn)) (λ d g le. let x = h .hist d g le in record { was = L .was-on up d (v .co .past d g) (x .was); must = λ y z. L .must-on up d (v .co .past d g) (x .must y z); lives = x .lives }) new;
-          facts = all-cons (Fact w fco (v .hand)) tt (λ a y. fact-on fill-grows a (h .facts a y));
-          hands = λ j d m y. let k = h .hands j d m y in record { keep = fill-keep j d m (stood j d m y) (k .keep); floor = L .floor-on up (m .floor) (k .floor); phase = phase-on fill-boxes (λ a z. List·Memᴰ·tail z) j d (m .asked) (m .keep) (m .phase) (k .phase) }
-        }
+        sound = sound;
+        loose = lo;
+        many = many;
+        now = λ d. elim (eqb d b) as (λ t. cond t (at (e + 1) bs (v .co .past b)) (v .co .past d) (cond t (record { edition = e + 1; bytes = bs }) (v .co .f d) .edition) ≡ cond t (record { edition = e + 1; bytes = bs }) (v .co .f d) .bytes) [ true ↦ at-self (e + 1) bs (v .co .past b) | false ↦ h .now d ];
+        hist = hist-on (HistOk w (v .co .drawn)) (λ d g le. let x = h .hist d g le in record { was = L .was-on up d (v .co .past d g) (x .was); must = λ y z. L .must-on up d (v .co .past d g) (x .must y z); lives = x .lives }) new;
+        facts = all-cons (Fact w fco (v .hand)) tt (λ a y. fact-on fill-grows a (h .facts a y));
+        hands = λ j d m y. let k = h .hands j d m y in record { keep = fill-keep j d m (stood j d m y) (k .keep); floor = L .floor-on up (m .floor) (k .floor); phase = phase-on fill-boxes (λ a z. List·Memᴰ·tail z) j d (m .asked) (m .keep) (m .phase) (k .phase) };
+      }
 
   abbrev pub filledView : View → (i c q b e : ℕ) → List ℕ → L .World → List (Open Call) → List (Ready Reply) → View
   filledView v i c q b e bs w os rs = record {
-      w = w; co = record { n = suc (v .co .n); seen = v .co .seen; opens = os; readies = rs; past = at b (at (e + 1) bs (v .co .past b)) (v .co .past); f = at b (record { edition = e + 1; bytes = bs }) (v .co .f); drawn = v .co .drawn };
-      hand = v .hand; ways = says i c q true (e + 1) ∷ v .ways
-    }
+    w = w;
+    co = record { n = suc (v .co .n); seen = v .co .seen; opens = os; readies = rs; past = at b (at (e + 1) bs (v .co .past b)) (v .co .past); f = at b (record { edition = e + 1; bytes = bs }) (v .co .f); drawn = v .co .drawn };
+    hand = v .hand;
+    ways = says i c q true (e + 1) ∷ v .ways;
+  }
 
   abbrev pub Filled' : View → (i c q b e : ℕ) → List ℕ → Type 0
   Filled' v i c q b e bs = (w : L .World) × (os : List (Open Call)) × (rs : List (Ready Reply)) × Good (filledView v i c q b e bs w os rs)
@@ -452,29 +511,36 @@ module _ (o : Ops) (p : Plan) (logs : ℕ) (L : Laws o p logs) where
   module _ (v : View) (h : Good v) (small : v .co .n < L .bound) (i c q : ℕ) where
     stood-same : (b : ℕ) (bs : List ℕ) (x : Box) → ((l : ℕ) → b ≡ logBox l → ⊥) → (j d : ℕ) (m : Mind) → v .hand j ≡ here d m → Stood v b bs (at b x (v .co .f)) (v .co .opens) (v .co .readies) j d m
     stood-same b bs x no' j d m y = let k = h .hands j d m y .keep in record {
-        waits = k .open'; top = λ l u. absurd (no' l u); inn = λ l ps z u. absurd (no' l u);
-        out' = λ l ps z t. k .batch l ps z .out' (ap (λ z. o .has (z .bytes) j d (m .keep .serial)) (sym (at-other b x (v .co .f) (logBox l) (λ u. no' l (sym u)))) ∙ t)
-      }
+      waits = k .open';
+      top = λ l u. absurd (no' l u);
+      inn = λ l ps z u. absurd (no' l u);
+      out' = λ l ps z t. k .batch l ps z .out' (ap (λ z. o .has (z .bytes) j d (m .keep .serial)) (sym (at-other b x (v .co .f) (logBox l) (λ u. no' l (sym u)))) ∙ t);
+    }
 
     -- a page, or the ledger: nothing is done by it
     plain : (b e : ℕ) (bs : List ℕ) → ((l : ℕ) → b ≡ logBox l → ⊥) → e ≡ v .co .f b .edition → (w : L .World) → L .Upto (v .w) w → L .Sound (suc (v .co .n)) w (at b (record { edition = e + 1; bytes = bs }) (v .co .f)) → L .logsOf w ≡ L .logsOf (v .w) → (IsPage b → L .Must w b bs) → Filled' v i c q b e bs
-    plain b e bs no' now w up sound sl must = (w, v .co .opens, v .co .readies, filled v h i c q b e bs now w up (v .co .opens) (v .co .readies) sound
-      (subst (λ z. Loose (K p logs) (v .co .seen) (stateOf p logs z) (v .co .opens) (v .co .readies)) (sym sl) (h .loose)) (ap length sl ∙ h .many)
-      (record { was = subst (L .Was w b) (ap (λ z. z .bytes) (at-self b (record { edition = e + 1; bytes = bs }) (v .co .f))) (L .was-now sound b); must = λ x y. must x; lives = λ l u. absurd (no' l u) })
-      (λ j k l x y z u r. r) (λ a r. r) (stood-same b bs (record { edition = e + 1; bytes = bs }) no'))
+    plain b e bs no' now w up sound sl must = (
+      w,
+      v .co .opens,
+      v .co .readies,
+      filled v h i c q b e bs now w up (v .co .opens) (v .co .readies) sound
+          (subst (λ z. Loose (K p logs) (v .co .seen) (stateOf p logs z) (v .co .opens) (v .co .readies)) (sym sl) (h .loose)) (ap length sl ∙ h .many)
+          (record { was = subst (L .Was w b) (ap (λ z. z .bytes) (at-self b (record { edition = e + 1; bytes = bs }) (v .co .f))) (L .was-now sound b); must = λ x y. must x; lives = λ l u. absurd (no' l u) })
+          (λ j k l x y z u r. r) (λ a r. r) (stood-same b bs (record { edition = e + 1; bytes = bs }) no'),
+    )
 
     page-fill : (b e : ℕ) (bs : List ℕ) → e ≡ v .co .f b .edition → PageFill (v .w) b e bs → Filled' v i c q b e bs
     page-fill b e bs now x = let r = L .page-ok b bs small (h .sound) (x .0) (x .2) (sym now ∙ x .1) in
-      plain b e bs (x .0 .1) now (r .0) (r .1) (subst (λ z. L .Sound (suc (v .co .n)) (r .0) (at b (record { edition = z + 1; bytes = bs }) (v .co .f))) (sym (x .1)) (r .2)) (r .3) (λ y. L .must-on (r .1) b bs (x .2))
+        plain b e bs (x .0 .1) now (r .0) (r .1) (subst (λ z. L .Sound (suc (v .co .n)) (r .0) (at b (record { edition = z + 1; bytes = bs }) (v .co .f))) (sym (x .1)) (r .2)) (r .3) (λ y. L .must-on (r .1) b bs (x .2))
 
     take-all : (e : ℕ) (x y : List ℕ) → v .co .f 0 .bytes ≡ x → Taken (v .w) x y → (w : L .World) × L .Upto (v .w) w × L .Sound (v .co .n) w (at 0 (record { edition = e + 1; bytes = y }) (v .co .f)) × (L .logsOf w ≡ L .logsOf (v .w))
     take-all e x y is same = let r = L .same-ok e (h .sound) in (r .0, r .1, subst (λ z. L .Sound (v .co .n) (r .0) (at 0 (record { edition = e + 1; bytes = z }) (v .co .f))) is (r .2), r .3)
     take-all e x y is (takes {y = u} l b z t d lt was g) =
-      let r = take-all e x u is t in
-      let f1 : ℕ → Box = at 0 (record { edition = e + 1; bytes = u }) (v .co .f) in
-      let s : f1 0 .bytes ≡ u = ap (λ z. z .bytes) (at-self 0 (record { edition = e + 1; bytes = u }) (v .co .f)) in
-      let a = L .take-ok {f = f1} e l b y small (r .2) (ap (o .due) s ∙ d) lt (L .was-on (r .1) (logBox l) b was) (ap (λ z. o .take z l b) s ∙ g) in
-      (a .0, L .upto-trans (r .1) (a .1), subst (L .Sound (v .co .n) (a .0)) (at-twice 0 (record { edition = e + 1; bytes = y }) (record { edition = e + 1; bytes = u }) (v .co .f)) (a .2), a .3 ∙ r .3)
+        let r = take-all e x u is t in
+        let f1 : ℕ → Box = at 0 (record { edition = e + 1; bytes = u }) (v .co .f) in
+        let s : f1 0 .bytes ≡ u = ap (λ z. z .bytes) (at-self 0 (record { edition = e + 1; bytes = u }) (v .co .f)) in
+        let a = L .take-ok {f = f1} e l b y small (r .2) (ap (o .due) s ∙ d) lt (L .was-on (r .1) (logBox l) b was) (ap (λ z. o .take z l b) s ∙ g) in
+        (a .0, L .upto-trans (r .1) (a .1), subst (L .Sound (v .co .n) (a .0)) (at-twice 0 (record { edition = e + 1; bytes = y }) (record { edition = e + 1; bytes = u }) (v .co .f)) (a .2), a .3 ∙ r .3)
 
     no-log : (l : ℕ) → 0 ≡ logBox l → ⊥
     no-log l e = log-some l (sym e)
@@ -496,14 +562,14 @@ module _ (o : Ops) (p : Plan) (logs : ℕ) (L : Laws o p logs) where
 
         pages' : (a : Page) → List·Memᴰ a (o .pages (v .co .f 0 .bytes) (x .shown)) → (1 ≤ v .co .f (a .box) .edition) × (v .co .f (a .box) .bytes ≡ a .bytes)
         pages' a m =
-          let one : 1 ≤ v .co .f (a .box) .edition = at-least a (x .todo a (subst (λ z. List·Memᴰ a (o .pages z (x .shown))) is m)) in
-          let must = L .must-of (h .sound) (v .co .f 0 .bytes) (x .shown) (L .was-now (h .sound) 0) right' a m in
-          let held : L .Must (v .w) (a .box) (v .co .f (a .box) .bytes) = subst (L .Must (v .w) (a .box)) (h .now (a .box)) (h .hist (a .box) (v .co .f (a .box) .edition) (omega arith) .must (must .1) one) in
-          (one, L .must-one (h .sound) (a .box) (v .co .f (a .box) .bytes) (a .bytes) held (must .0))
+            let one : 1 ≤ v .co .f (a .box) .edition = at-least a (x .todo a (subst (λ z. List·Memᴰ a (o .pages z (x .shown))) is m)) in
+            let must = L .must-of (h .sound) (v .co .f 0 .bytes) (x .shown) (L .was-now (h .sound) 0) right' a m in
+            let held : L .Must (v .w) (a .box) (v .co .f (a .box) .bytes) = subst (L .Must (v .w) (a .box)) (h .now (a .box)) (h .hist (a .box) (v .co .f (a .box) .edition) (omega arith) .must (must .1) one) in
+            (one, L .must-one (h .sound) (a .box) (v .co .f (a .box) .bytes) (a .bytes) held (must .0))
 
     module _ (l e s : ℕ) (ps : List Job) (fl old bs : List ℕ) (now : e ≡ v .co .f (logBox l) .edition) (dr : isIn c (v .co .drawn) ≡ true) (lt : l < logs) (is : v .co .f (logBox l) .bytes ≡ old) (floor : L .Floor (v .w) fl)
-      (adds : o .adds fl i c s l old (entries ps) ≡ gives bs) (tag : Tag (v .co .n) i c s) (distinct : Distinct ps) (puts : Puts l ps) (made : Made (v .co .seen) i ps) (few : length (entries ps) ≤ 8) (opened : Opened (v .co .opens) i ps)
-      (mine : (d : ℕ) (m : Mind) → v .hand i ≡ here d m → Mine (v .co .f) i c s l e ps d (m .keep)) where
+        (adds : o .adds fl i c s l old (entries ps) ≡ gives bs) (tag : Tag (v .co .n) i c s) (distinct : Distinct ps) (puts : Puts l ps) (made : Made (v .co .seen) i ps) (few : length (entries ps) ≤ 8) (opened : Opened (v .co .opens) i ps)
+        (mine : (d : ℕ) (m : Mind) → v .hand i ≡ here d m → Mine (v .co .f) i c s l e ps d (m .keep)) where
       was : L .Was (v .w) (logBox l) old
       was = subst (L .Was (v .w) (logBox l)) is (L .was-now (h .sound) (logBox l))
 
@@ -537,25 +603,25 @@ module _ (o : Ops) (p : Plan) (logs : ℕ) (L : Laws o p logs) where
 
       apart-log : (j k n : ℕ) (y : Call) → caller k (v .co .seen) ≡ by j y → IsPut n y → (logBox l ≡ logBox n → ⊥) → (a : Job) → List·Memᴰ a ps → k ≡ a .number → ⊥
       apart-log j k n y u t ne a m z =
-        let r : by j y ≡ by i (a .call) = sym u ∙ (ap (λ z. caller z (v .co .seen)) z ∙ made a m) in
-        let yp = is-put n y t in let ap' = is-put l (a .call) (puts a m) in
-        let yq = yp .1 in let aq = ap' .1 in
-        let q : by j (Put n (yp .0)) ≡ by i (Put l (ap' .0)) = ap (λ z. by j z) (sym yq) ∙ (r ∙ ap (λ z. by i z) aq) in
-        let w : n ≡ l = cc in ne (ap logBox (sym w))
+          let r : by j y ≡ by i (a .call) = sym u ∙ (ap (λ z. caller z (v .co .seen)) z ∙ made a m) in
+          let yp = is-put n y t in let ap' = is-put l (a .call) (puts a m) in
+          let yq = yp .1 in let aq = ap' .1 in
+          let q : by j (Put n (yp .0)) ≡ by i (Put l (ap' .0)) = ap (λ z. by j z) (sym yq) ∙ (r ∙ ap (λ z. by i z) aq) in
+          let w : n ≡ l = cc in ne (ap logBox (sym w))
 
       abbrev S : (j d : ℕ) (m : Mind) → Type 0
       S j d m = Stood v (logBox l) bs g' (did .opens) (did .readies) j d m
 
       others-stood : (j d : ℕ) (m : Mind) → (j ≡ i → ⊥) → v .hand j ≡ here d m → S j d m
       others-stood j d m ne y = let k = h .hands j d m y .keep in record {
-          waits = λ a u. did .stay (opening j (a .number) (a .call)) (k .open' a u) (apart-hand j (a .number) (a .call) (k .made a u) ne);
-          top = λ n u t one x. k .top l (v .co .f (logBox l) .edition) t (omega arith) one (ap (λ z. o .has z j d t) past-is ∙ (sym (other-has j d t ne) ∙ x));
-          inn = λ n qs b u x a z. did .still (readying j (a .number) Yes) (k .batch n qs b .inn (v .co .f (logBox n) .edition) (omega arith) (ap (λ z. o .has (v .co .past z (v .co .f z .edition)) j d (m .keep .serial)) (sym u) ∙ (ap (λ z. o .has z j d (m .keep .serial)) past-is ∙ (sym (other-has j d (m .keep .serial) ne) ∙ x))) a z);
-          out' = λ n qs b x a z. let bk = k .batch n qs b in did .stay (opening j (a .number) (a .call))
+        waits = λ a u. did .stay (opening j (a .number) (a .call)) (k .open' a u) (apart-hand j (a .number) (a .call) (k .made a u) ne);
+        top = λ n u t one x. k .top l (v .co .f (logBox l) .edition) t (omega arith) one (ap (λ z. o .has z j d t) past-is ∙ (sym (other-has j d t ne) ∙ x));
+        inn = λ n qs b u x a z. did .still (readying j (a .number) Yes) (k .batch n qs b .inn (v .co .f (logBox n) .edition) (omega arith) (ap (λ z. o .has (v .co .past z (v .co .f z .edition)) j d (m .keep .serial)) (sym u) ∙ (ap (λ z. o .has z j d (m .keep .serial)) past-is ∙ (sym (other-has j d (m .keep .serial) ne) ∙ x))) a z);
+        out' = λ n qs b x a z. let bk = k .batch n qs b in did .stay (opening j (a .number) (a .call))
             (bk .out' (⊎-elim (λ u. ap (λ z. o .has (v .co .f z .bytes) j d (m .keep .serial)) (sym u) ∙ (ap (λ z. o .has z j d (m .keep .serial)) is ∙ (sym (other-has j d (m .keep .serial) ne) ∙ (ap (λ z. o .has z j d (m .keep .serial)) (sym g-self) ∙ (ap (λ z. o .has (g' z .bytes) j d (m .keep .serial)) u ∙ x)))))
-              (λ u. ap (λ z. o .has (z .bytes) j d (m .keep .serial)) (sym (at-other (logBox l) (record { edition = e + 1; bytes = bs }) (v .co .f) (logBox n) (λ z. u (sym z)))) ∙ x) (same-log n)) a z)
-            (apart-hand j (a .number) (a .call) (bk .made a z) ne)
-        }
+            (λ u. ap (λ z. o .has (z .bytes) j d (m .keep .serial)) (sym (at-other (logBox l) (record { edition = e + 1; bytes = bs }) (v .co .f) (logBox n) (λ z. u (sym z)))) ∙ x) (same-log n)) a z)
+            (apart-hand j (a .number) (a .call) (bk .made a z) ne);
+      }
         where
           same-log : (n : ℕ) → (logBox l ≡ logBox n) ⊎ (logBox l ≡ logBox n → ⊥)
           same-log n = ⊎-elim (λ t. inl (eqb-true (logBox l) (logBox n) t)) (λ t. inr (eqb-false (logBox l) (logBox n) t)) (cases-bool (eqb (logBox l) (logBox n)))
@@ -574,10 +640,10 @@ module _ (o : Ops) (p : Plan) (logs : ℕ) (L : Laws o p logs) where
 
       same-out : (d n : ℕ) (qs : List Job) (m : Mind) → HandOk v i d m → Mine (v .co .f) i c s l e ps d (m .keep) → m .keep .batch ≡ some n qs → o .has (g' (logBox n) .bytes) i d (m .keep .serial) ≡ false → Opened (did .opens) i qs
       same-out d n qs m y (inl z) b x a w = absurd (both-ways (o .has (g' (logBox n) .bytes) i d (m .keep .serial)) x
-        (let r : some l ps ≡ some n qs = sym (z .2) ∙ b in let q : l ≡ n = cc in ap (λ z. o .has (g' (logBox z) .bytes) i d (m .keep .serial)) (sym q) ∙ (ap (λ z. o .has z i d (m .keep .serial)) g-self ∙ (ap (λ z. o .has bs i z (m .keep .serial)) (sym (z .0)) ∙ (ap (o .has bs i c) (sym (z .1)) ∙ new-has)))))
+          (let r : some l ps ≡ some n qs = sym (z .2) ∙ b in let q : l ≡ n = cc in ap (λ z. o .has (g' (logBox z) .bytes) i d (m .keep .serial)) (sym q) ∙ (ap (λ z. o .has z i d (m .keep .serial)) g-self ∙ (ap (λ z. o .has bs i z (m .keep .serial)) (sym (z .0)) ∙ (ap (o .has bs i c) (sym (z .1)) ∙ new-has)))))
       same-out d n qs m y (inr z) b x a w = did .stay (opening i (a .number) (a .call))
           (⊎-elim (λ u. here' u (cases-bool (o .has (v .co .f (logBox n) .bytes) i d (m .keep .serial)))) (λ u. y .keep .batch n qs b .out' (ap (λ z. o .has (z .bytes) i d (m .keep .serial)) (sym (at-other (logBox l) (record { edition = e + 1; bytes = bs }) (v .co .f) (logBox n) (λ z. u (sym z)))) ∙ x) a w)
-            (⊎-elim (λ t. inl (eqb-true (logBox l) (logBox n) t)) (λ t. inr (eqb-false (logBox l) (logBox n) t)) (cases-bool (eqb (logBox l) (logBox n)))))
+          (⊎-elim (λ t. inl (eqb-true (logBox l) (logBox n) t)) (λ t. inr (eqb-false (logBox l) (logBox n) t)) (cases-bool (eqb (logBox l) (logBox n)))))
           (λ k t q. z .apart k t n qs b a w (sym q))
         where
           here' : logBox l ≡ logBox n → (o .has (v .co .f (logBox n) .bytes) i d (m .keep .serial) ≡ true) ⊎ (o .has (v .co .f (logBox n) .bytes) i d (m .keep .serial) ≡ false) → List·Memᴰ (opening i (a .number) (a .call)) (v .co .opens)
@@ -586,30 +652,35 @@ module _ (o : Ops) (p : Plan) (logs : ℕ) (L : Laws o p logs) where
 
       same-stood : (d : ℕ) (m : Mind) → v .hand i ≡ here d m → S i d m
       same-stood d m y = let k = h .hands i d m y in record {
-          waits = λ a u. did .stay (opening i (a .number) (a .call)) (k .keep .open' a u) (same-waits d m k (mine d m y) a u);
-          top = λ n u t one x. same-top d t m (mine d m y) one x;
-          inn = λ n qs b u x. same-inn d n qs m (mine d m y) b (k .keep .batch n qs b .from) x;
-          out' = λ n qs b x. same-out d n qs m k (mine d m y) b x
-        }
+        waits = λ a u. did .stay (opening i (a .number) (a .call)) (k .keep .open' a u) (same-waits d m k (mine d m y) a u);
+        top = λ n u t one x. same-top d t m (mine d m y) one x;
+        inn = λ n qs b u x. same-inn d n qs m (mine d m y) b (k .keep .batch n qs b .from) x;
+        out' = λ n qs b x. same-out d n qs m k (mine d m y) b x;
+      }
 
       all-stood : (j d : ℕ) (m : Mind) → v .hand j ≡ here d m → S j d m
       all-stood j d m = ⊎-elim (λ t. subst (λ z. v .hand z ≡ here d m → S z d m) (sym (eqb-true j i t)) (same-stood d m)) (λ t. others-stood j d m (eqb-false j i t)) (cases-bool (eqb j i))
 
       log-lives : (n : ℕ) → logBox l ≡ logBox n → (j d t : ℕ) → 1 ≤ t → o .has bs j d t ≡ true → isIn d (v .co .drawn) ≡ true
       log-lives n u j d t one x = ⊎-elim (λ z. ap (λ y. isIn y (v .co .drawn)) (mine-has d t one (ap (λ y. o .has bs y d t) (sym (eqb-true j i z)) ∙ x) .0) ∙ dr)
-        (λ z. h .hist (logBox l) (v .co .f (logBox l) .edition) (omega arith) .lives l refl j d t one (ap (λ y. o .has y j d t) past-is ∙ (sym (other-has j d t (eqb-false j i z)) ∙ x))) (cases-bool (eqb j i))
+          (λ z. h .hist (logBox l) (v .co .f (logBox l) .edition) (omega arith) .lives l refl j d t one (ap (λ y. o .has y j d t) past-is ∙ (sym (other-has j d t (eqb-false j i z)) ∙ x))) (cases-bool (eqb j i))
 
       log-fill : Filled' v i c q (logBox l) e bs
-      log-fill = (put-it .0, did .opens, did .readies, filled v h i c q (logBox l) e bs now (put-it .0) (put-it .1) (did .opens) (did .readies) (put-it .2)
-        (subst (λ z. Loose (K p logs) (v .co .seen) (stateOf p logs z) (did .opens) (did .readies)) (sym (put-it .3)) (did .loose)) (ap length (put-it .3) ∙ (length-puts l (entries ps) (L .logsOf (v .w)) ∙ h .many))
-        (record { was = subst (L .Was (put-it .0) (logBox l)) g-self (L .was-now (put-it .2) (logBox l)); must = λ x y. absurd (x .1 l refl); lives = log-lives })
-        (λ j k n x y z u r. did .stay (opening j k x) r (apart-log j k n x z y u)) (did .still) all-stood)
+      log-fill = (
+        put-it .0,
+        did .opens,
+        did .readies,
+        filled v h i c q (logBox l) e bs now (put-it .0) (put-it .1) (did .opens) (did .readies) (put-it .2)
+            (subst (λ z. Loose (K p logs) (v .co .seen) (stateOf p logs z) (did .opens) (did .readies)) (sym (put-it .3)) (did .loose)) (ap length (put-it .3) ∙ (length-puts l (entries ps) (L .logsOf (v .w)) ∙ h .many))
+            (record { was = subst (L .Was (put-it .0) (logBox l)) g-self (L .was-now (put-it .2) (logBox l)); must = λ x y. absurd (x .1 l refl); lives = log-lives })
+            (λ j k n x y z u r. did .stay (opening j k x) r (apart-log j k n x z y u)) (did .still) all-stood,
+      )
 
     pub fill-ok : (b e : ℕ) (bs : List ℕ) → e ≡ v .co .f b .edition → Fact (v .w) (v .co) (v .hand) (wantsFill i c q b e bs) → Filled' v i c q b e bs
     fill-ok b e bs now (inr (inr x)) = page-fill b e bs now x
     fill-ok b e bs now (inr (inl x)) = subst (λ z. e ≡ v .co .f z .edition → Filled' v i c q z e bs) (sym (x .0)) (λ y. led-fill e bs y (x .1)) now
     fill-ok b e bs now (inl x) = let a = x .ask in subst (λ z. e ≡ v .co .f z .edition → Filled' v i c q z e bs) (sym (a .box-is))
-      (λ y. log-fill (a .l) e (a .s) (a .ps) (a .fl) (a .bytes) bs y (a .born) (a .in-logs) (a .old .same y) (a .floor) (a .adds) (a .tag) (a .distinct) (a .puts) (a .made) (a .few) (a .open' y) (x .mine)) now
+        (λ y. log-fill (a .l) e (a .s) (a .ps) (a .fl) (a .bytes) bs y (a .born) (a .in-logs) (a .old .same y) (a .floor) (a .adds) (a .tag) (a .distinct) (a .puts) (a .made) (a .few) (a .open' y) (x .mine)) now
 
   pub record Sm (w : L .World) (n : ℕ) (f : ℕ → Box) : Type 0 where
     pub k : ℕ
@@ -657,12 +728,12 @@ module _ (o : Ops) (p : Plan) (logs : ℕ) (L : Laws o p logs) where
     write-ok : (m : Mind) → Base (m .keep) (m .floor) → (e : ℕ) (ts : List Page) (y : List ℕ) → Doing w (co .f) e ts y → D (write o logs m e ts y)
     write-ok m b e [] y d = asks-ok m b (fill 0 e y) kept (inr (inl (refl, inl d))) tt
     write-ok m b e (t ∷ ts) y d = let a = L .must-of (sm .sound) (d .led) (d .shown) (d .old .was) (d .right) t (d .sub t (List·Memᴰ·head refl)) in
-      asks-ok m b (fill (t .box) 0 (t .bytes)) (written e t ts y) (inr (inr (a .1, refl, a .0))) (List·Memᴰ·head refl, d)
+        asks-ok m b (fill (t .box) 0 (t .bytes)) (written e t ts y) (inr (inr (a .1, refl, a .0))) (List·Memᴰ·head refl, d)
 
     next-ok : (m : Mind) → Base (m .keep) (m .floor) → (e : ℕ) (y : List ℕ) (ch : Bool) → Taking w (co .f) e y → o .due y ≡ nothing → D (nextLog o logs m e y ch)
     next-ok m b e y ch t d = cond-both (ltb (m .place) logs && not (eqb (m .left) 0)) (asks m (show (logBox (m .place))) (look e y ch (m .place))) (cond ch (asks m (fill 0 e y) kept) (idle o logs m)) D
-      (λ z. asks-ok m b (show (logBox (m .place))) (look e y ch (m .place)) tt (ltb-true (m .place) logs (and-parts (ltb (m .place) logs) (not (eqb (m .left) 0)) z .0), List·Memᴰ·head refl, t, d))
-      (λ z. cond-both ch (asks m (fill 0 e y) kept) (idle o logs m) D (λ u. asks-ok m b (fill 0 e y) kept (inr (inl (refl, inr t))) tt) (λ u. idle-ok m b))
+        (λ z. asks-ok m b (show (logBox (m .place))) (look e y ch (m .place)) tt (ltb-true (m .place) logs (and-parts (ltb (m .place) logs) (not (eqb (m .left) 0)) z .0), List·Memᴰ·head refl, t, d))
+        (λ z. cond-both ch (asks m (fill 0 e y) kept) (idle o logs m) D (λ u. asks-ok m b (fill 0 e y) kept (inr (inl (refl, inr t))) tt) (λ u. idle-ok m b))
 
     doing-all : (e : ℕ) (l x : List ℕ) → OldAt w (co .f) 0 e l → Right (L .Must w) (o .due l) x → Doing w (co .f) e (o .pages l x) (o .after l x)
     doing-all e l x old r = record { led = l; shown = x; old = old; right = r; is = refl; todo = λ a m. inr m; sub = λ a m. m }
@@ -677,12 +748,12 @@ module _ (o : Ops) (p : Plan) (logs : ℕ) (L : Laws o p logs) where
 
     page-ok' : (m : Mind) → Base (m .keep) (m .floor) → (e : ℕ) (l : List ℕ) (t : ℕ) (x : Box) → OldAt w (co .f) 0 e l → o .due l ≡ withPage t → (1 ≤ x .edition → L .Must w t (x .bytes)) → D (onPage o logs m e l x)
     page-ok' m b e l t x old d must = cond-both (eqb (x .edition) 0) (readLedger o logs m) (write o logs m e (o .pages l (x .bytes)) (o .after l (x .bytes))) D
-      (λ z. read-ok m b) (λ z. write-ok m b e (o .pages l (x .bytes)) (o .after l (x .bytes)) (doing-all e l (x .bytes) old (subst (λ y. Right (L .Must w) y (x .bytes)) (sym d) (must (let q = eqb-false (x .edition) 0 z in omega arith)))))
+        (λ z. read-ok m b) (λ z. write-ok m b e (o .pages l (x .bytes)) (o .after l (x .bytes)) (doing-all e l (x .bytes) old (subst (λ y. Right (L .Must w) y (x .bytes)) (sym d) (must (let q = eqb-false (x .edition) 0 z in omega arith)))))
 
     took-by : (m : Mind) → Base (m .keep) (m .floor) → (e : ℕ) (y : List ℕ) (ch : Bool) (l : ℕ) → l < logs → Taking w (co .f) e y → o .due y ≡ nothing → (x : List ℕ) → L .Was w (logBox l) x → (g : Gives) → o .take y l x ≡ g → D (tookBy o logs m e y ch l g)
     took-by m b e y ch l lt t d x was lacks g = read-ok m b
     took-by m b e y ch l lt t d x was (gives z) g =
-      cond-both (isNothing (o .due z)) (nextLog o logs (looking m (m .floor) (cond (ltb (l + 1) logs) (l + 1) 0) (lessOne o logs (m .left))) e z (ch || o .differs y z)) (cond (ch || o .differs y z) (asks m (fill 0 e z) kept) (readLedger o logs m)) D
+        cond-both (isNothing (o .due z)) (nextLog o logs (looking m (m .floor) (cond (ltb (l + 1) logs) (l + 1) 0) (lessOne o logs (m .left))) e z (ch || o .differs y z)) (cond (ch || o .differs y z) (asks m (fill 0 e z) kept) (readLedger o logs m)) D
         (λ u. next-ok (looking m (m .floor) (cond (ltb (l + 1) logs) (l + 1) 0) (lessOne o logs (m .left))) b e z (ch || o .differs y z) t' (is-nothing (o .due z) u))
         (λ u. cond-both (ch || o .differs y z) (asks m (fill 0 e z) kept) (readLedger o logs m) D (λ q. asks-ok m b (fill 0 e z) kept (inr (inl (refl, inr t'))) tt) (λ q. read-ok m b))
       where
@@ -696,7 +767,7 @@ module _ (o : Ops) (p : Plan) (logs : ℕ) (L : Laws o p logs) where
 
     -- puts
     fill-by : (m : Mind) → Base (m .keep) (m .floor) → (k : Keep) → Base k (m .floor) → (l : ℕ) (ps : List Job) → k .batch ≡ some l ps → (x : Box) → OldAt w (co .f) (logBox l) (x .edition) (x .bytes) → (x .edition ≡ co .f (logBox l) .edition → Opened (co .opens) i ps) →
-      (g : Gives) → o .adds (m .floor) (k .me) (k .chance) (k .serial) l (x .bytes) (entries ps) ≡ g → D (fillLog o logs m k l (x .edition) g)
+        (g : Gives) → o .adds (m .floor) (k .me) (k .chance) (k .serial) l (x .bytes) (entries ps) ≡ g → D (fillLog o logs m k l (x .edition) g)
     fill-by m b k bk l ps is x old op lacks g = read-ok (looking m (m .floor) l 1) b
     fill-by m b k bk l ps is x old op (gives bs) g = asks-ok (keeping m k) bk (fill (logBox l) (x .edition) bs) put (inl (ask, refl, is))
         (logBox l, x .edition, bs, List·Memᴰ·head refl, λ n qs e. let r : some l ps ≡ some n qs = sym is ∙ e in let q : l ≡ n = cc in (ap logBox q, L .has-new w (co .n) i c (k .serial) l (m .floor) (x .bytes) bs (entries ps) (sm .lt) (bo .in-logs) (old .was) tag adds))
@@ -743,9 +814,20 @@ module _ (o : Ops) (p : Plan) (logs : ℕ) (L : Laws o p logs) where
 
     q-keep : KeepOk qco i c (m .keep)
     q-keep = let q = hk .keep in record {
-        me = q .me; chance = q .chance; hand = q .hand; life = q .life; serial = omega (arith, q .serial); born = q .born; few = q .few; ok = q .ok; made = q .made; open' = q .open'; distinct = q .distinct; top = q .top;
-        batch = λ l ps y. let b = q .batch l ps y in record { in-logs = b .in-logs; from = b .from; distinct = b .distinct; puts = b .puts; made = b .made; clear = b .clear; inn = b .inn; out' = b .out' }
-      }
+      me = q .me;
+      chance = q .chance;
+      hand = q .hand;
+      life = q .life;
+      serial = omega (arith, q .serial);
+      born = q .born;
+      few = q .few;
+      ok = q .ok;
+      made = q .made;
+      open' = q .open';
+      distinct = q .distinct;
+      top = q .top;
+      batch = λ l ps y. let b = q .batch l ps y in record { in-logs = b .in-logs; from = b .from; distinct = b .distinct; puts = b .puts; made = b .made; clear = b .clear; inn = b .inn; out' = b .out' };
+    }
 
     abbrev QBase : Keep → List ℕ → Type 0
     QBase = Base (v .co .seen) (v .w) qco (v .ways) i c (m .keep) sm
@@ -758,8 +840,12 @@ module _ (o : Ops) (p : Plan) (logs : ℕ) (L : Laws o p logs) where
 
     quiet : (r : Step) → QDoes r → Turned v i c (v .co .seen) r
     unfolding tolds
-    quiet r x = (v .co .opens, v .co .readies, subst (λ z. Good (turnedView v i c (v .co .seen) (v .co .opens) (v .co .readies) (record { tell = z; ask = r .ask; mind = r .mind }))) (sym (x .said))
-      (moved v h i c m e (v .co .seen) (v .co .opens) (v .co .readies) (h .loose) q-stays r x))
+    quiet r x = (
+      v .co .opens,
+      v .co .readies,
+      subst (λ z. Good (turnedView v i c (v .co .seen) (v .co .opens) (v .co .readies) (record { tell = z; ask = r .ask; mind = r .mind }))) (sym (x .said))
+          (moved v h i c m e (v .co .seen) (v .co .opens) (v .co .readies) (h .loose) q-stays r x),
+    )
 
     stay-does : (b : Bool) → QDoes (stays (hearing m b))
     stay-does b = record { keep = q-keep; floor = hk .floor; mines = λ d s l g ps made z. z; asks = tt; phase = hk .phase; said = refl }
@@ -791,9 +877,10 @@ module _ (o : Ops) (p : Plan) (logs : ℕ) (L : Laws o p logs) where
 
         base' : Base (v .co .seen) (v .w) sco (v .ways) i c (m .keep) sm k' (m .floor)
         base' = let q = hk .keep in record {
-            keep = record { me = q .me; chance = q .chance; hand = q .hand; life = q .life; serial = omega (arith, q .serial); born = q .born; few = omega (arith, q .few); ok = q .ok; made = λ j x. st .callers i (j .number) (j .call) (q .made j x); open' = q .open'; distinct = q .distinct; top = q .top; batch = λ n qs x. absurd (none-some x) };
-            floor = hk .floor; mines = mines-settled (v .co .seen) (v .co) i c (m .keep) q
-          }
+          keep = record { me = q .me; chance = q .chance; hand = q .hand; life = q .life; serial = omega (arith, q .serial); born = q .born; few = omega (arith, q .few); ok = q .ok; made = λ j x. st .callers i (j .number) (j .call) (q .made j x); open' = q .open'; distinct = q .distinct; top = q .top; batch = λ n qs x. absurd (none-some x) };
+          floor = hk .floor;
+          mines = mines-settled (v .co .seen) (v .co) i c (m .keep) q;
+        }
 
     -- a batch is fixed
     module _ (l : ℕ) (lt : l < logs) (nb : m .keep .batch ≡ none) where
@@ -820,28 +907,46 @@ module _ (o : Ops) (p : Plan) (logs : ℕ) (L : Laws o p logs) where
 
       fix-batch : BatchOk qco i c kf l ps'
       fix-batch = let q = hk .keep in record {
-          in-logs = lt; from = omega arith; distinct = distinct-keep mine' (m .keep .waiting) (q .distinct); puts = λ j x. let y = in-ps j x in for-put logs l (j .call) (y .1) (q .ok j (y .0)); made = λ j x. q .made j (in-ps j x .0);
-          clear = λ j x a y z. let u = in-ps j x in let t = in-js a y in let r = distinct-same (m .keep .waiting) (q .distinct) j a (u .0) (t .0) z in not-both (forLog l (a .call)) (ap mine' (sym r) ∙ u .1) (t .1);
-          inn = λ g le x. absurd (no-has l g le x); out' = λ x j y. q .open' j (in-ps j y .0)
-        }
+        in-logs = lt;
+        from = omega arith;
+        distinct = distinct-keep mine' (m .keep .waiting) (q .distinct);
+        puts = λ j x. let y = in-ps j x in for-put logs l (j .call) (y .1) (q .ok j (y .0));
+        made = λ j x. q .made j (in-ps j x .0);
+        clear = λ j x a y z. let u = in-ps j x in let t = in-js a y in let r = distinct-same (m .keep .waiting) (q .distinct) j a (u .0) (t .0) z in not-both (forLog l (a .call)) (ap mine' (sym r) ∙ u .1) (t .1);
+        inn = λ g le x. absurd (no-has l g le x);
+        out' = λ x j y. q .open' j (in-ps j y .0);
+      }
 
       fix-base : QBase kf (m .floor)
       fix-base = let q = hk .keep in record {
-          keep = record {
-            me = q .me; chance = q .chance; hand = q .hand; life = q .life; serial = omega (arith, q .serial); born = q .born; few = let r = keep-split (λ j. forLog l (j .call)) (λ j. not (forLog l (j .call))) (λ j. refl) (m .keep .waiting) in omega (arith, r, q .few); ok = λ j x. q .ok j (in-js j x .0); made = λ j x. q .made j (in-js j x .0); open' = λ j x. q .open' j (in-js j x .0); distinct = distinct-keep (λ j. not (forLog l (j .call))) (m .keep .waiting) (q .distinct);
-            top = λ n g t le one x. let r = q .top n g t le one x in omega arith;
-            batch = λ n qs x. let a : l ≡ n = cc in let b : ps' ≡ qs = cc in subst₂ (BatchOk qco i c kf) a b fix-batch
-          };
-          floor = hk .floor; mines = fix-mines
-        }
+        keep = record {
+          me = q .me;
+          chance = q .chance;
+          hand = q .hand;
+          life = q .life;
+          serial = omega (arith, q .serial);
+          born = q .born;
+          few = let r = keep-split (λ j. forLog l (j .call)) (λ j. not (forLog l (j .call))) (λ j. refl) (m .keep .waiting) in omega (arith, r, q .few);
+          ok = λ j x. q .ok j (in-js j x .0);
+          made = λ j x. q .made j (in-js j x .0);
+          open' = λ j x. q .open' j (in-js j x .0);
+          distinct = distinct-keep (λ j. not (forLog l (j .call))) (m .keep .waiting) (q .distinct);
+          top = λ n g t le one x. let r = q .top n g t le one x in omega arith;
+          batch = λ n qs x. let a : l ≡ n = cc in let b : ps' ≡ qs = cc in subst₂ (BatchOk qco i c kf) a b fix-batch;
+        };
+        floor = hk .floor;
+        mines = fix-mines;
+      }
         where
           fix-mines : Mines (v .co .seen) (v .co .f) i c (m .keep) kf
           fix-mines d s n g ps made (inl z) = absurd (none-some (sym nb ∙ z .2))
           fix-mines d s n g ps made (inr z) = inr (record {
-              older = λ u. omega (arith, z .older u); past' = λ u n qs b. omega (arith, z .older u); clear = λ j x a y. z .clear j x a (in-js a y .0);
-              apart = λ j x n qs b a y. let r : some l ps' ≡ some n qs = b in let t : ps' ≡ qs = cc in z .clear j x a (in-ps a (subst (List·Memᴰ a) (sym t) y) .0);
-              late = λ n' qs b x. absurd (no-has n (v .co .f (logBox n) .edition) (omega arith) (ap (λ y. o .has y i c (m .keep .serial + 1)) (h .now (logBox n)) ∙ x))
-            })
+            older = λ u. omega (arith, z .older u);
+            past' = λ u n qs b. omega (arith, z .older u);
+            clear = λ j x a y. z .clear j x a (in-js a y .0);
+            apart = λ j x n qs b a y. let r : some l ps' ≡ some n qs = b in let t : ps' ≡ qs = cc in z .clear j x a (in-ps a (subst (List·Memᴰ a) (sym t) y) .0);
+            late = λ n' qs b x. absurd (no-has n (v .co .f (logBox n) .edition) (omega arith) (ap (λ y. o .has y i c (m .keep .serial + 1)) (h .now (logBox n)) ∙ x));
+          })
 
     -- the box that was asked for
     old-of : (b : ℕ) (x : Box) → x .edition ≤ v .co .f b .edition → v .co .past b (x .edition) ≡ x .bytes → OldAt (v .w) (v .co .f) b (x .edition) (x .bytes)
@@ -849,7 +954,7 @@ module _ (o : Ops) (p : Plan) (logs : ℕ) (L : Laws o p logs) where
 
     log-by : (l : ℕ) → l < logs → (x : Box) → x .edition ≤ v .co .f (logBox l) .edition → v .co .past (logBox l) (x .edition) ≡ x .bytes → (b : Batch) → m .keep .batch ≡ b → Turned v i c (v .co .seen) (onLogBy o logs (hearing m true) l x b)
     log-by l lt x le was none nb = quiet (onLogBy o logs (hearing m true) l x none) (fill-by (v .co .seen) (v .w) qco (v .ways) i c (m .keep) sm (hearing m true) q-base (kf l lt nb) (fix-base l lt nb) l (ps' l lt nb) refl x (old-of (logBox l) x le was)
-      (λ q j y. hk .keep .open' j (in-ps l lt nb j y .0)) (o .adds (m .floor) (m .keep .me) (m .keep .chance) (m .keep .serial + 1) l (x .bytes) (entries (ps' l lt nb))) refl)
+        (λ q j y. hk .keep .open' j (in-ps l lt nb j y .0)) (o .adds (m .floor) (m .keep .me) (m .keep .chance) (m .keep .serial + 1) l (x .bytes) (entries (ps' l lt nb))) refl)
     log-by l lt x le was (some n ps) is = cond-both (eqb l n) (cond (o .has (x .bytes) (m .keep .me) (m .keep .chance) (m .keep .serial)) (settle o logs (hearing m true) ps) (putting o logs (hearing m true) (m .keep) n ps x)) (start o logs (hearing m true)) (Turned v i c (v .co .seen))
         (λ t. cond-both (o .has (x .bytes) (m .keep .me) (m .keep .chance) (m .keep .serial)) (settle o logs (hearing m true) ps) (putting o logs (hearing m true) (m .keep) n ps x) (Turned v i c (v .co .seen)) (yes' (eqb-true l n t)) (no' (eqb-true l n t)))
         (λ t. quiet (start o logs (hearing m true)) (start-ok (v .co .seen) (v .w) qco (v .ways) i c (m .keep) sm (hearing m true) q-base))
@@ -872,7 +977,7 @@ module _ (o : Ops) (p : Plan) (logs : ℕ) (L : Laws o p logs) where
 
     -- what came out is told
     told-out : (k f n : ℕ) (ev : List Event) → List·Memᴰ (record { number = k; call = Out' f n }) (m .keep .waiting) → (j : ℕ) → j ≤ n → ev ≡ firstOf j (dropOf f (out p (L .logsOf (v .w)))) →
-      Turned v i c (v .co .seen) (saying (record { number = k; reply = Outs ev } ∷ []) (idle o logs (keeping (hearing m true) (waits (m .keep) (keepIf (λ a. not (eqb (a .number) k)) (m .keep .waiting))))))
+        Turned v i c (v .co .seen) (saying (record { number = k; reply = Outs ev } ∷ []) (idle o logs (keeping (hearing m true) (waits (m .keep) (keepIf (λ a. not (eqb (a .number) k)) (m .keep .waiting))))))
     unfolding tolds core caller
     told-out k f n ev mem j le is = (le' .0, v .co .readies, moved v h i c m e es' (le' .0) (v .co .readies) lo st (idle o logs (keeping (hearing m true) k')) (idle-ok (v .co .seen) (v .w) tco (v .ways) i c (m .keep) sm (keeping (hearing m true) k') base'))
       where
@@ -905,25 +1010,35 @@ module _ (o : Ops) (p : Plan) (logs : ℕ) (L : Laws o p logs) where
 
         base' : Base (v .co .seen) (v .w) tco (v .ways) i c (m .keep) sm k' (m .floor)
         base' = let q = hk .keep in record {
-            keep = record {
-              me = q .me; chance = q .chance; hand = q .hand; life = q .life; serial = omega (arith, q .serial); born = q .born; few = let r = keep-less (λ a. not (eqb (a .number) k)) (m .keep .waiting) in omega (arith, r, q .few); ok = λ a x. q .ok a (in-w a x .0); made = λ a x. st .callers i (a .number) (a .call) (q .made a (in-w a x .0));
-              open' = λ a x. let y = in-w a x in ⊎-elim (λ u. absurd (not-both (eqb (a .number) k) (eq-eqb (a .number) k (ap (λ z. z .number) u)) (y .1))) (λ u. u) (less-rest (le' .1) (q .open' a (y .0)));
-              distinct = distinct-keep (λ a. not (eqb (a .number) k)) (m .keep .waiting) (q .distinct); top = q .top;
-              batch = λ l ps y. let b = q .batch l ps y in record { in-logs = b .in-logs; from = b .from; distinct = b .distinct; puts = b .puts; made = λ a x. st .callers i (a .number) (a .call) (b .made a x); clear = λ a x d z. b .clear a x d (in-w d z .0); inn = b .inn; out' = λ t a x. put-stays i (a .number) l (a .call) (b .puts a x) (b .out' t a x) }
-            };
-            floor = hk .floor; mines = mines-less (v .co .seen) (v .co .f) i c (m .keep) (k' .waiting) (λ a x. in-w a x .0)
-          }
+          keep = record {
+            me = q .me;
+            chance = q .chance;
+            hand = q .hand;
+            life = q .life;
+            serial = omega (arith, q .serial);
+            born = q .born;
+            few = let r = keep-less (λ a. not (eqb (a .number) k)) (m .keep .waiting) in omega (arith, r, q .few);
+            ok = λ a x. q .ok a (in-w a x .0);
+            made = λ a x. st .callers i (a .number) (a .call) (q .made a (in-w a x .0));
+            open' = λ a x. let y = in-w a x in ⊎-elim (λ u. absurd (not-both (eqb (a .number) k) (eq-eqb (a .number) k (ap (λ z. z .number) u)) (y .1))) (λ u. u) (less-rest (le' .1) (q .open' a (y .0)));
+            distinct = distinct-keep (λ a. not (eqb (a .number) k)) (m .keep .waiting) (q .distinct);
+            top = q .top;
+            batch = λ l ps y. let b = q .batch l ps y in record { in-logs = b .in-logs; from = b .from; distinct = b .distinct; puts = b .puts; made = λ a x. st .callers i (a .number) (a .call) (b .made a x); clear = λ a x d z. b .clear a x d (in-w d z .0); inn = b .inn; out' = λ t a x. put-stays i (a .number) l (a .call) (b .puts a x) (b .out' t a x) };
+          };
+          floor = hk .floor;
+          mines = mines-less (v .co .seen) (v .co .f) i c (m .keep) (k' .waiting) (λ a x. in-w a x .0);
+        }
 
     gather-by : (k f n : ℕ) (x : List ℕ) (got : List Event) → List·Memᴰ (record { number = k; call = Out' f n }) (m .keep .waiting) → L .Was (v .w) 0 x → Gathered o (L .Must (v .w)) f n x got → (y : Next) → o .answer f n x got ≡ y →
-      Turned v i c (v .co .seen) (gatherBy o logs (hearing m true) k f n x got y)
+        Turned v i c (v .co .seen) (gatherBy o logs (hearing m true) k f n x got y)
     gather-by k f n x got mem was ga (page b) g = quiet (gatherBy o logs (hearing m true) k f n x got (page b)) (asks-ok (v .co .seen) (v .w) qco (v .ways) i c (m .keep) sm (hearing m true) q-base (show b) (gather k f n x got b) tt (List·Memᴰ·head refl, mem, was, ga, g))
     gather-by k f n x got mem was ga (reply ev) g = let r = L .answer-ok f n x got ev (h .sound) was ga g in told-out k f n ev mem (r .0) (r .1) (r .2)
 
     -- what the store says
     seen-at : (x : Box) (b : ℕ) → List·Memᴰ (shows i c (m .asked) x) (v .ways) → List·Memᴰ (wantsBox i c (m .asked) b) (v .ways) → (x .edition ≤ v .co .f b .edition) × (v .co .past b (x .edition) ≡ x .bytes)
     seen-at x b s w = let r = kp .ways (shows i c (m .asked) x) s in
-      let u : _≡_ {A = Way ℕ} (wantsBox i c (m .asked) (r .box)) (wantsBox i c (m .asked) b) = fr .same i c (m .asked) (wantsBox i c (m .asked) (r .box)) (wantsBox i c (m .asked) b) (r .wanted) w (refl, refl, refl) (refl, refl, refl) in
-      let q : r .box ≡ b = cc in (subst (λ z. x .edition ≤ v .co .f z .edition) q (r .upto), subst (λ z. v .co .past z (x .edition) ≡ x .bytes) q (r .was))
+        let u : _≡_ {A = Way ℕ} (wantsBox i c (m .asked) (r .box)) (wantsBox i c (m .asked) b) = fr .same i c (m .asked) (wantsBox i c (m .asked) (r .box)) (wantsBox i c (m .asked) b) (r .wanted) w (refl, refl, refl) (refl, refl, refl) in
+        let q : r .box ≡ b = cc in (subst (λ z. x .edition ≤ v .co .f z .edition) q (r .upto), subst (λ z. v .co .past z (x .edition) ≡ x .bytes) q (r .was))
 
     must-at : (x : Box) (b : ℕ) → IsPage b → x .edition ≤ v .co .f b .edition → v .co .past b (x .edition) ≡ x .bytes → 1 ≤ x .edition → L .Must (v .w) b (x .bytes)
     must-at x b pg le was one = subst (L .Must (v .w) b) was (h .hist b (x .edition) le .must pg one)
@@ -934,28 +1049,28 @@ module _ (o : Ops) (p : Plan) (logs : ℕ) (L : Laws o p logs) where
     shown-by x s put q = quiet (stays (hearing m true)) (stay-does true)
     shown-by x s ledger q = let r = seen-at x 0 s q in quiet (onLedger o logs (hearing m true) x) (ledger-ok (v .co .seen) (v .w) qco (v .ways) i c (m .keep) sm (hearing m true) q-base x (old-of 0 x (r .0) (r .1)))
     shown-by x s (page' g l b) q = let r = seen-at x b s (q .0) in quiet (onPage o logs (hearing m true) g l x)
-      (page-ok' (v .co .seen) (v .w) qco (v .ways) i c (m .keep) sm (hearing m true) q-base g l b x (q .1) (q .2) (must-at x b (L .due-page (v .w) l b (q .1 .was) (q .2)) (r .0) (r .1)))
+        (page-ok' (v .co .seen) (v .w) qco (v .ways) i c (m .keep) sm (hearing m true) q-base g l b x (q .1) (q .2) (must-at x b (L .due-page (v .w) l b (q .1 .was) (q .2)) (r .0) (r .1)))
     shown-by x s (written g t ts l) q = quiet (stays (hearing m true)) (stay-does true)
     shown-by x s kept q = quiet (stays (hearing m true)) (stay-does true)
     shown-by x s (look g l ch n) q = let r = seen-at x (logBox n) s (q .1) in quiet (onShown o logs (hearing m true) x (look g l ch n))
-      (took-by (v .co .seen) (v .w) qco (v .ways) i c (m .keep) sm (hearing m true) q-base g l ch n (q .0) (q .2) (q .3) (x .bytes) (old-of (logBox n) x (r .0) (r .1) .was) (o .take l n (x .bytes)) refl)
+        (took-by (v .co .seen) (v .w) qco (v .ways) i c (m .keep) sm (hearing m true) q-base g l ch n (q .0) (q .2) (q .3) (x .bytes) (old-of (logBox n) x (r .0) (r .1) .was) (o .take l n (x .bytes)) refl)
     shown-by x s (answer' k f n) q = let r = seen-at x 0 s (q .0) in gather-by k f n (x .bytes) [] (q .1) (old-of 0 x (r .0) (r .1) .was) noPage (o .answer f n (x .bytes) []) refl
     shown-by x s (gather k f n l got b) q = let r = seen-at x b s (q .0) in cond-both (eqb (x .edition) 0) (start o logs (hearing m true)) (gathers o logs (hearing m true) k f n l (o .more f n l got (x .bytes))) (Turned v i c (v .co .seen))
-      (λ t. quiet (start o logs (hearing m true)) (start-ok (v .co .seen) (v .w) qco (v .ways) i c (m .keep) sm (hearing m true) q-base))
-      (λ t. gather-by k f n l (o .more f n l got (x .bytes)) (q .1) (q .2) (onePage b (x .bytes) (q .3) (q .4) (must-at x b (L .answer-page (v .w) f n l got b (q .2) (q .4)) (r .0) (r .1) (let u = eqb-false (x .edition) 0 t in omega arith))) (o .answer f n l (o .more f n l got (x .bytes))) refl)
+        (λ t. quiet (start o logs (hearing m true)) (start-ok (v .co .seen) (v .w) qco (v .ways) i c (m .keep) sm (hearing m true) q-base))
+        (λ t. gather-by k f n l (o .more f n l got (x .bytes)) (q .1) (q .2) (onePage b (x .bytes) (q .3) (q .4) (must-at x b (L .answer-page (v .w) f n l got b (q .2) (q .4)) (r .0) (r .1) (let u = eqb-false (x .edition) 0 t in omega arith))) (o .answer f n l (o .more f n l got (x .bytes))) refl)
 
     filled-at : (g b e' : ℕ) (bs : List ℕ) → List·Memᴰ (says i c (m .asked) true g) (v .ways) → List·Memᴰ (wantsFill i c (m .asked) b e' bs) (v .ways) → (g ≤ v .co .f b .edition) × (v .co .past b g ≡ bs) × (1 ≤ g)
     filled-at g b e' bs s w = let r = kp .ways (says i c (m .asked) true g) s in
-      let u : _≡_ {A = Way ℕ} (wantsFill i c (m .asked) (r .box) (r .from) (r .bytes)) (wantsFill i c (m .asked) b e' bs) = fr .same i c (m .asked) (wantsFill i c (m .asked) (r .box) (r .from) (r .bytes)) (wantsFill i c (m .asked) b e' bs) (r .wanted) w (refl, refl, refl) (refl, refl, refl) in
-      let q : r .box ≡ b = cc in let t : r .bytes ≡ bs = cc in (subst (λ z. g ≤ v .co .f z .edition) q (r .upto), subst (λ z. v .co .past z g ≡ r .bytes) q (r .was) ∙ t, omega (arith, r .next))
+        let u : _≡_ {A = Way ℕ} (wantsFill i c (m .asked) (r .box) (r .from) (r .bytes)) (wantsFill i c (m .asked) b e' bs) = fr .same i c (m .asked) (wantsFill i c (m .asked) (r .box) (r .from) (r .bytes)) (wantsFill i c (m .asked) b e' bs) (r .wanted) w (refl, refl, refl) (refl, refl, refl) in
+        let q : r .box ≡ b = cc in let t : r .bytes ≡ bs = cc in (subst (λ z. g ≤ v .co .f z .edition) q (r .upto), subst (λ z. v .co .past z g ≡ r .bytes) q (r .was) ∙ t, omega (arith, r .next))
 
     page-there : (d : Bool) (g b : ℕ) (bs : List ℕ) → L .Must (v .w) b bs → List·Memᴰ (says i c (m .asked) d g) (v .ways) → List·Memᴰ (wantsFill i c (m .asked) b 0 bs) (v .ways) → 1 ≤ v .co .f b .edition
     page-there true g b bs must s w = let r = filled-at g b 0 bs s w in omega (arith, r .0, r .2)
     page-there false g b bs must s w = let r = kp .ways (says i c (m .asked) false g) s in
-      let u : _≡_ {A = Way ℕ} (wantsFill i c (m .asked) (r .box) (r .from) (r .bytes)) (wantsFill i c (m .asked) b 0 bs) = fr .same i c (m .asked) (wantsFill i c (m .asked) (r .box) (r .from) (r .bytes)) (wantsFill i c (m .asked) b 0 bs) (r .wanted) w (refl, refl, refl) (refl, refl, refl) in
-      let q : r .box ≡ b = cc in let t : r .bytes ≡ bs = cc in let z : r .from ≡ 0 = cc in
-      let le : g ≤ v .co .f b .edition = subst (λ z. g ≤ v .co .f z .edition) q (r .upto) in
-      let one = unfit-some g (v .co .past (r .box) g) bs (L .must-fits (v .w) b bs must) (subst₂ (λ y u. T (not (fillable (record { edition = g; bytes = v .co .past (r .box) g }) y u))) z t (r .unfit)) in omega arith
+        let u : _≡_ {A = Way ℕ} (wantsFill i c (m .asked) (r .box) (r .from) (r .bytes)) (wantsFill i c (m .asked) b 0 bs) = fr .same i c (m .asked) (wantsFill i c (m .asked) (r .box) (r .from) (r .bytes)) (wantsFill i c (m .asked) b 0 bs) (r .wanted) w (refl, refl, refl) (refl, refl, refl) in
+        let q : r .box ≡ b = cc in let t : r .bytes ≡ bs = cc in let z : r .from ≡ 0 = cc in
+        let le : g ≤ v .co .f b .edition = subst (λ z. g ≤ v .co .f z .edition) q (r .upto) in
+        let one = unfit-some g (v .co .past (r .box) g) bs (L .must-fits (v .w) b bs must) (subst₂ (λ y u. T (not (fillable (record { edition = g; bytes = v .co .past (r .box) g }) y u))) z t (r .unfit)) in omega arith
 
     filled-by : (d : Bool) (g : ℕ) → List·Memᴰ (says i c (m .asked) d g) (v .ways) → (ph : Phase) → PhaseOk (v .w) (v .co .f) (v .ways) i c (m .asked) (m .keep) ph → Turned v i c (v .co .seen) (onFilled o logs (hearing m true) d ph)
     filled-by d g s rest q = quiet (stays (hearing m true)) (stay-does true)
@@ -966,7 +1081,7 @@ module _ (o : Ops) (p : Plan) (logs : ℕ) (L : Laws o p logs) where
         go d s none is = quiet (start o logs (hearing m true)) (start-ok (v .co .seen) (v .w) qco (v .ways) i c (m .keep) sm (hearing m true) q-base)
         go false s (some l ps) is = quiet (start o logs (hearing m true)) (start-ok (v .co .seen) (v .w) qco (v .ways) i c (m .keep) sm (hearing m true) q-base)
         go true s (some l ps) is = let r = filled-at g (q .0) (q .1) (q .2) s (q .3) in let t = q .4 l ps is in
-          settle-ok l ps is (hk .keep .batch l ps is .inn g (subst (λ z. g ≤ v .co .f z .edition) (t .0) (r .0)) (ap (λ z. o .has z i c (m .keep .serial)) (ap (λ z. v .co .past z g) (sym (t .0)) ∙ r .1) ∙ t .1))
+            settle-ok l ps is (hk .keep .batch l ps is .inn g (subst (λ z. g ≤ v .co .f z .edition) (t .0) (r .0)) (ap (λ z. o .has z i c (m .keep .serial)) (ap (λ z. v .co .past z g) (sym (t .0)) ∙ r .1) ∙ t .1))
     filled-by d g s ledger q = quiet (stays (hearing m true)) (stay-does true)
     filled-by d g s (page' a l b) q = quiet (stays (hearing m true)) (stay-does true)
     filled-by d g s (written a t ts l) q = quiet (write o logs (hearing m true) a ts l) (write-ok (v .co .seen) (v .w) qco (v .ways) i c (m .keep) sm (hearing m true) q-base a ts l
@@ -990,11 +1105,11 @@ module _ (o : Ops) (p : Plan) (logs : ℕ) (L : Laws o p logs) where
     unfolding acts
     turn-ok (a-word j w k) = quiet (stays m) same-does
     turn-ok (a-box q x k) = cond-both (eqb q (m .asked)) (onShown o logs (hearing m true) x (m .phase)) (stays m) (Turned v i c (v .co .seen))
-      (λ t. shown-by x (subst (λ z. List·Memᴰ (shows i c z x) (v .ways)) (eqb-true q (m .asked) t) k) (m .phase) (hk .phase)) (λ t. quiet (stays m) same-does)
+        (λ t. shown-by x (subst (λ z. List·Memᴰ (shows i c z x) (v .ways)) (eqb-true q (m .asked) t) k) (m .phase) (hk .phase)) (λ t. quiet (stays m) same-does)
     turn-ok (a-filling q g d k) = cond-both (eqb q (m .asked)) (onFilled o logs (hearing m true) d (m .phase)) (stays m) (Turned v i c (v .co .seen))
-      (λ t. filled-by d g (subst (λ z. List·Memᴰ (says i c z d g) (v .ways)) (eqb-true q (m .asked) t) k) (m .phase) (hk .phase)) (λ t. quiet (stays m) same-does)
+        (λ t. filled-by d g (subst (λ z. List·Memᴰ (says i c z d g) (v .ways)) (eqb-true q (m .asked) t) k) (m .phase) (hk .phase)) (λ t. quiet (stays m) same-does)
     turn-ok a-beat = cond-both (isRest (m .phase) || not (m .heard)) (start o logs (hearing m false)) (stays (hearing m false)) (Turned v i c (v .co .seen))
-      (λ t. quiet (start o logs (hearing m false)) (start-ok (v .co .seen) (v .w) qco (v .ways) i c (m .keep) sm (hearing m false) q-base)) (λ t. quiet (stays (hearing m false)) (stay-does false))
+        (λ t. quiet (start o logs (hearing m false)) (start-ok (v .co .seen) (v .w) qco (v .ways) i c (m .keep) sm (hearing m false) q-base)) (λ t. quiet (stays (hearing m false)) (stay-does false))
 
     -- a call comes in
     abbrev Room : Type 0
@@ -1016,14 +1131,34 @@ module _ (o : Ops) (p : Plan) (logs : ℕ) (L : Laws o p logs) where
       -- refused, or handed back
       back : (r : Reply) → Loose (K p logs) (told i k r ∷ ces) cst (v .co .opens) (v .co .readies) → Turned v i c ces (record { tell = record { number = k; reply = r } ∷ []; ask = none'; mind = m })
       unfolding tolds caller
-      back r lo = (v .co .opens, v .co .readies, moved v h i c m e (told i k r ∷ ces) (v .co .opens) (v .co .readies) lo
-          (record { callers = c-callers; puts = λ j n l y z u. u; opens = λ j n y ne z. z; readies = λ j n t ne z. z }) (stays m)
-          (let q = hk .keep in record {
-            keep = record {
-              me = q .me; chance = q .chance; hand = q .hand; life = q .life; serial = omega (arith, q .serial); born = q .born; few = q .few; ok = q .ok; made = λ a y. c-callers i (a .number) (a .call) (q .made a y); open' = q .open'; distinct = q .distinct; top = q .top;
-              batch = λ l ps y. let b = q .batch l ps y in record { in-logs = b .in-logs; from = b .from; distinct = b .distinct; puts = b .puts; made = λ a z. c-callers i (a .number) (a .call) (b .made a z); clear = b .clear; inn = b .inn; out' = b .out' }
-            };
-            floor = hk .floor; mines = λ d s l g ps made z. z; asks = tt; phase = hk .phase; said = refl }))
+      back r lo = (
+        v .co .opens,
+        v .co .readies,
+        moved v h i c m e (told i k r ∷ ces) (v .co .opens) (v .co .readies) lo
+            (record { callers = c-callers; puts = λ j n l y z u. u; opens = λ j n y ne z. z; readies = λ j n t ne z. z }) (stays m)
+            (let q = hk .keep in record {
+              keep = record {
+                me = q .me;
+                chance = q .chance;
+                hand = q .hand;
+                life = q .life;
+                serial = omega (arith, q .serial);
+                born = q .born;
+                few = q .few;
+                ok = q .ok;
+                made = λ a y. c-callers i (a .number) (a .call) (q .made a y);
+                open' = q .open';
+                distinct = q .distinct;
+                top = q .top;
+                batch = λ l ps y. let b = q .batch l ps y in record { in-logs = b .in-logs; from = b .from; distinct = b .distinct; puts = b .puts; made = λ a z. c-callers i (a .number) (a .call) (b .made a z); clear = b .clear; inn = b .inn; out' = b .out' };
+              };
+              floor = hk .floor;
+              mines = λ d s l g ps made z. z;
+              asks = tt;
+              phase = hk .phase;
+              said = refl;
+            }),
+      )
 
       refused : (r : Reply) → Answers p core 68719476736 x cst r cst → Turned v i c ces (record { tell = record { number = k; reply = r } ∷ []; ask = none'; mind = m })
       refused r may = back r (loose-out (K p logs) (readying i k r) (loose-done (K p logs) (opening i k x) r c-in (taken refl) may) (taken refl))
@@ -1059,16 +1194,33 @@ module _ (o : Ops) (p : Plan) (logs : ℕ) (L : Laws o p logs) where
 
       c-base : Room → CallOk logs x → Base (v .co .seen) (v .w) cco (v .ways) i c (m .keep) sm ck (m .floor)
       c-base room ok = let q = hk .keep in record {
-          keep = record {
-            me = q .me; chance = q .chance; hand = q .hand; life = q .life; serial = omega (arith, q .serial); born = q .born; few = let r = length-snoc (m .keep .waiting) jx in omega (arith, r, room); ok = cw-all (λ a. CallOk logs (a .call)) (q .ok) ok;
-            made = cw-all (λ a. caller (a .number) ces ≡ by i (a .call)) (λ a y. c-callers i (a .number) (a .call) (q .made a y)) (caller-new i k x (v .co .seen));
-            open' = cw-all (λ a. List·Memᴰ (opening i (a .number) (a .call)) (opening i k x ∷ v .co .opens)) (λ a y. List·Memᴰ·tail (q .open' a y)) (List·Memᴰ·head refl);
-            distinct = distinct-snoc (m .keep .waiting) jx (q .distinct) (λ a y u. not-used i (a .call) (ap (λ t. caller t (v .co .seen)) (sym u) ∙ q .made a y)); top = q .top;
-            batch = λ l ps y. let b = q .batch l ps y in record { in-logs = b .in-logs; from = b .from; distinct = b .distinct; puts = b .puts; made = λ a z. c-callers i (a .number) (a .call) (b .made a z);
-              clear = λ j z. cw-all (λ a. j .number ≡ a .number → ⊥) (b .clear j z) (λ u. not-used i (j .call) (ap (λ t. caller t (v .co .seen)) (sym u) ∙ b .made j z)); inn = b .inn; out' = λ t a z. List·Memᴰ·tail (b .out' t a z) }
+        keep = record {
+          me = q .me;
+          chance = q .chance;
+          hand = q .hand;
+          life = q .life;
+          serial = omega (arith, q .serial);
+          born = q .born;
+          few = let r = length-snoc (m .keep .waiting) jx in omega (arith, r, room);
+          ok = cw-all (λ a. CallOk logs (a .call)) (q .ok) ok;
+          made = cw-all (λ a. caller (a .number) ces ≡ by i (a .call)) (λ a y. c-callers i (a .number) (a .call) (q .made a y)) (caller-new i k x (v .co .seen));
+          open' = cw-all (λ a. List·Memᴰ (opening i (a .number) (a .call)) (opening i k x ∷ v .co .opens)) (λ a y. List·Memᴰ·tail (q .open' a y)) (List·Memᴰ·head refl);
+          distinct = distinct-snoc (m .keep .waiting) jx (q .distinct) (λ a y u. not-used i (a .call) (ap (λ t. caller t (v .co .seen)) (sym u) ∙ q .made a y));
+          top = q .top;
+          batch = λ l ps y. let b = q .batch l ps y in record {
+            in-logs = b .in-logs;
+            from = b .from;
+            distinct = b .distinct;
+            puts = b .puts;
+            made = λ a z. c-callers i (a .number) (a .call) (b .made a z);
+            clear = λ j z. cw-all (λ a. j .number ≡ a .number → ⊥) (b .clear j z) (λ u. not-used i (j .call) (ap (λ t. caller t (v .co .seen)) (sym u) ∙ b .made j z));
+            inn = b .inn;
+            out' = λ t a z. List·Memᴰ·tail (b .out' t a z);
           };
-          floor = hk .floor; mines = c-mines
-        }
+        };
+        floor = hk .floor;
+        mines = c-mines;
+      }
 
       more-phase : (q : ℕ) (ph : Phase) → PhaseOk (v .w) (v .co .f) (v .ways) i c q (m .keep) ph → PhaseOk (v .w) (v .co .f) (v .ways) i c q ck ph
       more-phase q rest y = y
@@ -1084,23 +1236,27 @@ module _ (o : Ops) (p : Plan) (logs : ℕ) (L : Laws o p logs) where
 
       taken-in : (r : Step) → Does (v .co .seen) (v .w) cco (v .ways) i c (m .keep) r → Turned v i c ces r
       unfolding tolds
-      taken-in r d = (opening i k x ∷ v .co .opens, v .co .readies, subst (λ z. Good (turnedView v i c ces (opening i k x ∷ v .co .opens) (v .co .readies) (record { tell = z; ask = r .ask; mind = r .mind }))) (sym (d .said))
-        (moved v h i c m e ces (opening i k x ∷ v .co .opens) (v .co .readies) c-in c-stays r d))
+      taken-in r d = (
+        opening i k x ∷ v .co .opens,
+        v .co .readies,
+        subst (λ z. Good (turnedView v i c ces (opening i k x ∷ v .co .opens) (v .co .readies) (record { tell = z; ask = r .ask; mind = r .mind }))) (sym (d .said))
+            (moved v h i c m e ces (opening i k x ∷ v .co .opens) (v .co .readies) c-in c-stays r d),
+      )
 
       accept-ok : Room → CallOk logs x → Turned v i c ces (accepts o logs m k x)
       accept-ok room ok = cond-both (isRest (m .phase)) (start o logs (keeping m ck)) (stays (keeping m ck)) (Turned v i c ces)
-        (λ t. taken-in (start o logs (keeping m ck)) (start-ok (v .co .seen) (v .w) cco (v .ways) i c (m .keep) sm (keeping m ck) (c-base room ok)))
-        (λ t. taken-in (stays (keeping m ck)) (record { keep = c-base room ok .keep; floor = hk .floor; mines = c-mines; asks = tt; phase = more-phase (m .asked) (m .phase) (hk .phase); said = refl }))
+          (λ t. taken-in (start o logs (keeping m ck)) (start-ok (v .co .seen) (v .w) cco (v .ways) i c (m .keep) sm (keeping m ck) (c-base room ok)))
+          (λ t. taken-in (stays (keeping m ck)) (record { keep = c-base room ok .keep; floor = hk .floor; mines = c-mines; asks = tt; phase = more-phase (m .asked) (m .phase) (hk .phase); said = refl }))
 
     judge-ok : Room → (k : ℕ) (x : Call) → isUsed k (v .co .seen) ≡ false → Turned v i c (called i k x ∷ v .co .seen) (judges o logs m k x)
     unfolding core
     judge-ok room k (Put l en) new = cond-both (entryOk en) (cond (ltb l logs) (accepts o logs m k (Put l en)) (refuses o logs m k 2)) (refuses o logs m k 1) (Turned v i c (called i k (Put l en) ∷ v .co .seen))
-      (λ t. cond-both (ltb l logs) (accepts o logs m k (Put l en)) (refuses o logs m k 2) (Turned v i c (called i k (Put l en) ∷ v .co .seen))
+        (λ t. cond-both (ltb l logs) (accepts o logs m k (Put l en)) (refuses o logs m k 2) (Turned v i c (called i k (Put l en) ∷ v .co .seen))
         (λ u. accept-ok k (Put l en) new room (ltb-true l logs u, subst T (sym t) tt))
         (λ u. refused k (Put l en) new (No 2) (noLog l en (stateOf p logs (L .logsOf (v .w))) tt (subst T (sym t) tt) (subst (λ z. z ≤ l) (sym (h .many)) (ltb-false l logs u)))))
-      (λ t. refused k (Put l en) new (No 1) (badPut l en (stateOf p logs (L .logsOf (v .w))) tt (subst (λ z. T (not z)) (sym t) tt)))
+        (λ t. refused k (Put l en) new (No 1) (badPut l en (stateOf p logs (L .logsOf (v .w))) tt (subst (λ z. T (not z)) (sym t) tt)))
     judge-ok room k (Out' f n) new = cond-both (leb n 1024) (accepts o logs m k (Out' f n)) (refuses o logs m k 1) (Turned v i c (called i k (Out' f n) ∷ v .co .seen))
-      (λ t. accept-ok k (Out' f n) new room (leb-true n 1024 t)) (λ t. refused k (Out' f n) new (No 1) (tooMany f n (stateOf p logs (L .logsOf (v .w))) tt (leb-false n 1024 t)))
+        (λ t. accept-ok k (Out' f n) new room (leb-true n 1024 t)) (λ t. refused k (Out' f n) new (No 1) (tooMany f n (stateOf p logs (L .logsOf (v .w))) tt (leb-false n 1024 t)))
     judge-ok room k (Drop n) new = refused k (Drop n) new (No 12) (not-yet (Drop n) (stateOf p logs (L .logsOf (v .w))) (λ z. z))
 
     pub call-ok : (k : ℕ) (x : Call) → isUsed k (v .co .seen) ≡ false → Turned v i c (called i k x ∷ v .co .seen) (acts o logs (Ask k x) m)
@@ -1116,30 +1272,46 @@ module _ (o : Ops) (p : Plan) (logs : ℕ) (L : Laws o p logs) where
     quietView = record { w = v .w; co = zco; hand = f; ways = new ++ v .ways }
 
     pub quiet-ok : ((a : Way ℕ) → List·Memᴰ a new → Fact (v .w) zco f a) → ((d : ℕ) → isIn d (v .co .drawn) ≡ true → isIn d dr ≡ true) →
-      ((j d : ℕ) (m : Mind) → f j ≡ here d m → (v .hand j ≡ here d m) ⊎ HandOk quietView j d m) →
-      ((i c s l g : ℕ) (ps : List Job) → isIn c (v .co .drawn) ≡ true → Made (v .co .seen) i ps → ((d : ℕ) (m : Mind) → v .hand i ≡ here d m → Mine (v .co .f) i c s l g ps d (m .keep)) → (d : ℕ) (m : Mind) → f i ≡ here d m → Mine (v .co .f) i c s l g ps d (m .keep)) →
-      Good quietView
+        ((j d : ℕ) (m : Mind) → f j ≡ here d m → (v .hand j ≡ here d m) ⊎ HandOk quietView j d m) →
+        ((i c s l g : ℕ) (ps : List Job) → isIn c (v .co .drawn) ≡ true → Made (v .co .seen) i ps → ((d : ℕ) (m : Mind) → v .hand i ≡ here d m → Mine (v .co .f) i c s l g ps d (m .keep)) → (d : ℕ) (m : Mind) → f i ≡ here d m → Mine (v .co .f) i c s l g ps d (m .keep)) →
+        Good quietView
     quiet-ok fs drs hs ms = record {
-        sound = L .later (h .sound); loose = h .loose; many = h .many; now = h .now; hist = λ b g le. let x = h .hist b g le in record { was = x .was; must = x .must; lives = λ l u i c t one y. drs c (x .lives l u i c t one y) };
-        facts = all-append (Fact (v .w) zco f) new (v .ways) fs (λ a y. fact-on grow a (h .facts a y));
-        hands = λ j d m y. ⊎-elim (old j d m) (λ z. z) (hs j d m y)
-      }
+      sound = L .later (h .sound);
+      loose = h .loose;
+      many = h .many;
+      now = h .now;
+      hist = λ b g le. let x = h .hist b g le in record { was = x .was; must = x .must; lives = λ l u i c t one y. drs c (x .lives l u i c t one y) };
+      facts = all-append (Fact (v .w) zco f) new (v .ways) fs (λ a y. fact-on grow a (h .facts a y));
+      hands = λ j d m y. ⊎-elim (old j d m) (λ z. z) (hs j d m y);
+    }
       where
         grow : Grows (v .w) (v .w) (v .co) zco (v .hand) f
         grow = record { ns = omega arith; boxes = boxes-refl (v .w) (v .co .f); callers = λ j k x y. y; opens = λ j k l x y z u r. r; drawns = drs; mines = ms }
 
         old : (j d : ℕ) (m : Mind) → v .hand j ≡ here d m → HandOk quietView j d m
         old j d m y = let k = h .hands j d m y in let q = k .keep in record {
-            keep = record {
-              me = q .me; chance = q .chance; hand = q .hand; life = q .life; serial = omega (arith, q .serial); born = drs d (q .born); few = q .few; ok = q .ok; made = q .made; open' = q .open'; distinct = q .distinct; top = q .top;
-              batch = λ l ps y. let b = q .batch l ps y in record { in-logs = b .in-logs; from = b .from; distinct = b .distinct; puts = b .puts; made = b .made; clear = b .clear; inn = b .inn; out' = b .out' }
-            };
-            floor = k .floor; phase = phase-on (boxes-refl (v .w) (v .co .f)) (λ a z. Memᴰ·append-right new z) j d (m .asked) (m .keep) (m .phase) (k .phase)
-          }
+          keep = record {
+            me = q .me;
+            chance = q .chance;
+            hand = q .hand;
+            life = q .life;
+            serial = omega (arith, q .serial);
+            born = drs d (q .born);
+            few = q .few;
+            ok = q .ok;
+            made = q .made;
+            open' = q .open';
+            distinct = q .distinct;
+            top = q .top;
+            batch = λ l ps y. let b = q .batch l ps y in record { in-logs = b .in-logs; from = b .from; distinct = b .distinct; puts = b .puts; made = b .made; clear = b .clear; inn = b .inn; out' = b .out' };
+          };
+          floor = k .floor;
+          phase = phase-on (boxes-refl (v .w) (v .co .f)) (λ a z. Memᴰ·append-right new z) j d (m .asked) (m .keep) (m .phase) (k .phase);
+        }
 
   pub answer-quiet : (v : View) → Good v → (a : Way ℕ) → ((w : L .World) (co : Core) (f : ℕ → Stand Mind) → Fact w co f a) → Good (record { w = v .w; co = next (v .co) (v .co .seen) (v .co .opens) (v .co .readies); hand = v .hand; ways = a ∷ v .ways })
   answer-quiet v h a fa = quiet-ok v h (v .hand) (a ∷ []) (v .co .drawn) (all-cons (Fact (v .w) (next (v .co) (v .co .seen) (v .co .opens) (v .co .readies)) (v .hand)) (fa (v .w) (next (v .co) (v .co .seen) (v .co .opens) (v .co .readies)) (v .hand)) (all-none (Fact (v .w) (next (v .co) (v .co .seen) (v .co .opens) (v .co .readies)) (v .hand))))
-    (λ d y. y) (λ j d m y. inl y) (λ i c s l g ps bn made mine. mine)
+      (λ d y. y) (λ j d m y. inl y) (λ i c s l g ps bn made mine. mine)
 
   pub gone-quiet : (v : View) → Good v → (i : ℕ) → Good (record { w = v .w; co = next (v .co) (v .co .seen) (v .co .opens) (v .co .readies); hand = at i away (v .hand); ways = v .ways })
   gone-quiet v h i = quiet-ok v h (at i away (v .hand)) [] (v .co .drawn) (all-none (Fact (v .w) (next (v .co) (v .co .seen) (v .co .opens) (v .co .readies)) (at i away (v .hand)))) (λ d y. y) (λ j d m y. inl (still j d m y)) (λ j c s l g ps bn made mine d m y. mine d m (still j d m y))
@@ -1148,13 +1320,13 @@ module _ (o : Ops) (p : Plan) (logs : ℕ) (L : Laws o p logs) where
       still j d m y = ⊎-elim (λ z. absurd (not-here (z .1))) (λ z. z .1) (at-case i away (v .hand) j (here d m) y)
 
   pub come-quiet : (v : View) → Good v → (i r : ℕ) → i < 64 → r < 18446744073709551616 → isIn r (v .co .drawn) ≡ false →
-    Good (record { w = v .w; co = record { n = suc (v .co .n); seen = v .co .seen; opens = v .co .opens; readies = v .co .readies; past = v .co .past; f = v .co .f; drawn = r ∷ v .co .drawn }; hand = at i (here r (worker o logs .begins i r)) (v .hand); ways = v .ways })
+      Good (record { w = v .w; co = record { n = suc (v .co .n); seen = v .co .seen; opens = v .co .opens; readies = v .co .readies; past = v .co .past; f = v .co .f; drawn = r ∷ v .co .drawn }; hand = at i (here r (worker o logs .begins i r)) (v .hand); ways = v .ways })
   unfolding isIn
   come-quiet v h i r lt lt' new = quiet-ok v h (at i (here r m0) (v .hand)) [] (r ∷ v .co .drawn) (all-none (Fact (v .w) rco (at i (here r m0) (v .hand)))) (λ d y. or-right (eqb d r) (isIn d (v .co .drawn)) y)
       (at-hands (λ j d m. (v .hand j ≡ here d m) ⊎ HandOk rv j d m) i r m0 (v .hand) (inr fresh-hand) (λ j d m ne y. inl y))
       (λ j c s l g ps bn made mine d m y. at-hands (λ j d m. ((d : ℕ) (m : Mind) → v .hand j ≡ here d m → Mine (v .co .f) j c s l g ps d (m .keep)) → Mine (v .co .f) j c s l g ps d (m .keep)) i r m0 (v .hand)
-        (λ mine. inr (record { older = λ u. absurd (other c bn u); past' = λ u n qs b. absurd (none-some b); clear = λ j x a y. elim y [ ]; apart = λ j x n qs b. absurd (none-some b); late = λ n qs b. absurd (none-some b) }))
-        (λ j d m ne y mine. mine d m y) j d m y mine)
+      (λ mine. inr (record { older = λ u. absurd (other c bn u); past' = λ u n qs b. absurd (none-some b); clear = λ j x a y. elim y [ ]; apart = λ j x n qs b. absurd (none-some b); late = λ n qs b. absurd (none-some b) }))
+      (λ j d m ne y mine. mine d m y) j d m y mine)
     where
       m0 : Mind
       m0 = worker o logs .begins i r
@@ -1170,9 +1342,21 @@ module _ (o : Ops) (p : Plan) (logs : ℕ) (L : Laws o p logs) where
 
       fresh-hand : HandOk rv i r m0
       fresh-hand = record {
-          keep = record {
-            me = refl; chance = refl; hand = lt; life = lt'; serial = omega arith; born = or-left (eqb r r) (isIn r (v .co .drawn)) (eq-eqb r r refl); few = omega arith; ok = λ j x. elim x [ ]; made = λ j x. elim x [ ]; open' = λ j x. elim x [ ]; distinct = tt;
-            top = λ l g t le one x. absurd (both-ways (isIn r (v .co .drawn)) new (h .hist (logBox l) g le .lives l refl i r t one x)); batch = λ l ps b. absurd (none-some b)
-          };
-          floor = L .floor-none (v .w); phase = tt
-        }
+        keep = record {
+          me = refl;
+          chance = refl;
+          hand = lt;
+          life = lt';
+          serial = omega arith;
+          born = or-left (eqb r r) (isIn r (v .co .drawn)) (eq-eqb r r refl);
+          few = omega arith;
+          ok = λ j x. elim x [ ];
+          made = λ j x. elim x [ ];
+          open' = λ j x. elim x [ ];
+          distinct = tt;
+          top = λ l g t le one x. absurd (both-ways (isIn r (v .co .drawn)) new (h .hist (logBox l) g le .lives l refl i r t one x));
+          batch = λ l ps b. absurd (none-some b);
+        };
+        floor = L .floor-none (v .w);
+        phase = tt;
+      }

@@ -14,11 +14,11 @@ use Rattle.streams.specs.Hands.{Box, In, From, Shown, Filled, Ask, Beat, Out, T
 use Rattle.interface.specs.Ops.{Gives, lacks, gives, Due, nothing, alone, withPage, Next, page, reply, Page, Ops, logBox}
 use Rattle.worker.specs.Worker.{Job, Batch, none, some, Phase, rest, log, put, ledger, page', written, kept, look, answer', gather, Keep, Mind, Told, Asks, none', show, fill, Step, keepIf, entries, stays, asks, keeping, hearing, looking, waits, fixed, settled', saying, forLog, yeses, isNothing, readLedger, startCall, startBy, start, idleBy, idle, settle, fillLog, putting, onLogBy, onPutBy, write, nextLog, onLedgerBy, onLedger, onPage, tookBy, gatherBy, gathers, onShown, onFilled, refuses, accepts, judges, acts, putsOf, isRest, telling, asking', turnOf, worker, lessOne}
 use Rattle.worker.specs.Laws.{Laws}
-use Rattle.shelf.proofs.Runs.{all-cons, all-none}
-use Rattle.worker.proofs.Workjobs.{Distinct, in-keep}
+use Rattle.shelf.proofs.Places.{all-cons, all-none}
 use Rattle.shelf.proofs.Counts.{minds-wait, Differ, count-at}
-use Rattle.worker.proofs.Workinv.{none-some, PhaseOk}
-use Rattle.worker.proofs.Workbook.{inv}
+use Rattle.worker.proofs.Jobs.{Distinct, in-keep}
+use Rattle.worker.proofs.Invariant.{none-some, PhaseOk}
+use Rattle.worker.proofs.Onebook.{inv}
 
 abbrev pub HasK : Keep → ℕ → Type 0
 HasK k n = ((j : Job) × List·Memᴰ j (k .waiting) × (n ≡ j .number)) ⊎ ((l : ℕ) × (ps : List Job) × (k .batch ≡ some l ps) × (j : Job) × List·Memᴰ j ps × (n ≡ j .number))
@@ -77,7 +77,7 @@ module _ (o : Ops) (logs : ℕ) where
 
   kp-next : (m : Mind) (e : ℕ) (y : List ℕ) (c : Bool) → Kp (m .keep) (nextLog o logs m e y c)
   kp-next m e y c = cond-both (ltb (m .place) logs && not (eqb (m .left) 0)) (asks m (show (logBox (m .place))) (look e y c (m .place))) (cond c (asks m (fill 0 e y) kept) (idle o logs m)) (Kp (m .keep))
-    (λ t. (refl, refl)) (λ t. cond-both c (asks m (fill 0 e y) kept) (idle o logs m) (Kp (m .keep)) (λ t. (refl, refl)) (λ t. kp-rest m))
+      (λ t. (refl, refl)) (λ t. cond-both c (asks m (fill 0 e y) kept) (idle o logs m) (Kp (m .keep)) (λ t. (refl, refl)) (λ t. kp-rest m))
 
   kp-ledger : (m : Mind) (x : Box) (d : Due) → Kp (m .keep) (onLedgerBy o logs m x d)
   kp-ledger m x nothing = kp-next m (x .edition) (x .bytes) false
@@ -87,8 +87,8 @@ module _ (o : Ops) (logs : ℕ) where
   kp-took : (m : Mind) (e : ℕ) (l : List ℕ) (c : Bool) (n : ℕ) (g : Gives) → Kp (m .keep) (tookBy o logs m e l c n g)
   kp-took m e l c n lacks = (refl, refl)
   kp-took m e l c n (gives x) = cond-both (isNothing (o .due x)) (nextLog o logs (looking m (m .floor) (cond (ltb (n + 1) logs) (n + 1) 0) (lessOne o logs (m .left))) e x (c || o .differs l x)) (cond (c || o .differs l x) (asks m (fill 0 e x) kept) (readLedger o logs m)) (Kp (m .keep))
-    (λ t. kp-next (looking m (m .floor) (cond (ltb (n + 1) logs) (n + 1) 0) (lessOne o logs (m .left))) e x (c || o .differs l x))
-    (λ t. cond-both (c || o .differs l x) (asks m (fill 0 e x) kept) (readLedger o logs m) (Kp (m .keep)) (λ t. (refl, refl)) (λ t. (refl, refl)))
+      (λ t. kp-next (looking m (m .floor) (cond (ltb (n + 1) logs) (n + 1) 0) (lessOne o logs (m .left))) e x (c || o .differs l x))
+      (λ t. cond-both (c || o .differs l x) (asks m (fill 0 e x) kept) (readLedger o logs m) (Kp (m .keep)) (λ t. (refl, refl)) (λ t. (refl, refl)))
 
   module _ (y : In ℕ Call) (m : Mind) where
     abbrev m1 : Mind
@@ -106,11 +106,11 @@ module _ (o : Ops) (logs : ℕ) where
 
     can-log : (l : ℕ) (x : Box) (b : Batch) → m .keep .batch ≡ b → Can' y m (onLogBy o logs m1 l x b)
     can-log l x none is = can-fill l (x .edition) (fixed (m .keep) l (keepIf (λ j. forLog l (j .call)) (m .keep .waiting)) (keepIf (λ j. not (forLog l (j .call))) (m .keep .waiting)))
-      (o .adds (m .floor) (m .keep .me) (m .keep .chance) (m .keep .serial + 1) l (x .bytes) (entries (keepIf (λ j. forLog l (j .call)) (m .keep .waiting)))) (λ r k. fixes l (k .0) (k .1) is)
+        (o .adds (m .floor) (m .keep .me) (m .keep .chance) (m .keep .serial + 1) l (x .bytes) (entries (keepIf (λ j. forLog l (j .call)) (m .keep .waiting)))) (λ r k. fixes l (k .0) (k .1) is)
     can-log l x (some n ps) is = cond-both (eqb l n) (cond (o .has (x .bytes) (m .keep .me) (m .keep .chance) (m .keep .serial)) (settle o logs m1 ps) (putting o logs m1 (m .keep) n ps x)) (start o logs m1) (Can' y m)
-      (λ t. cond-both (o .has (x .bytes) (m .keep .me) (m .keep .chance) (m .keep .serial)) (settle o logs m1 ps) (putting o logs m1 (m .keep) n ps x) (Can' y m) (λ t. can-settle n ps is)
+        (λ t. cond-both (o .has (x .bytes) (m .keep .me) (m .keep .chance) (m .keep .serial)) (settle o logs m1 ps) (putting o logs m1 (m .keep) n ps x) (Can' y m) (λ t. can-settle n ps is)
         (λ t. can-fill n (x .edition) (m .keep) (o .adds (m .floor) (m .keep .me) (m .keep .chance) (m .keep .serial) n (x .bytes) (entries ps)) of-kp))
-      (λ t. of-kp (start o logs m1) (kp-start m1 (m .keep .batch) (m .keep .waiting)))
+        (λ t. of-kp (start o logs m1) (kp-start m1 (m .keep .batch) (m .keep .waiting)))
 
     can-gather : (k f n : ℕ) (l : List ℕ) (got : List Event) (z : Next) → Ans (m .phase) k → Can' y m (gatherBy o logs m1 k f n l got z)
     can-gather k f n l got (page b) an = keeps refl refl
@@ -127,7 +127,7 @@ module _ (o : Ops) (logs : ℕ) where
     can-shown x (look e l c n) is = of-kp (tookBy o logs m1 e l c n (o .take l n (x .bytes))) (kp-took m1 e l c n (o .take l n (x .bytes)))
     can-shown x (answer' k f n) is = can-gather k f n (x .bytes) [] (o .answer f n (x .bytes) []) (subst (λ z. Ans z k) (sym is) refl)
     can-shown x (gather k f n l got b) is = cond-both (eqb (x .edition) 0) (start o logs m1) (gathers o logs m1 k f n l (o .more f n l got (x .bytes))) (Can' y m) (λ t. of-kp (start o logs m1) (kp-start m1 (m .keep .batch) (m .keep .waiting)))
-      (λ t. can-gather k f n l (o .more f n l got (x .bytes)) (o .answer f n l (o .more f n l got (x .bytes))) (subst (λ z. Ans z k) (sym is) refl))
+        (λ t. can-gather k f n l (o .more f n l got (x .bytes)) (o .answer f n l (o .more f n l got (x .bytes))) (subst (λ z. Ans z k) (sym is) refl))
 
     can-put : (d : Bool) (b : Batch) → m .keep .batch ≡ b → Can' y m (onPutBy o logs m1 d b)
     can-put d none is = of-kp (start o logs m1) (kp-start m1 (m .keep .batch) (m .keep .waiting))
@@ -156,7 +156,7 @@ module _ (o : Ops) (logs : ℕ) where
 
   can-judge : (m : Mind) (k : ℕ) (c : Call) → Can' (Ask k c) m (judges o logs m k c)
   can-judge m k (Put l e) = cond-both (entryOk e) (cond (ltb l logs) (accepts o logs m k (Put l e)) (refuses o logs m k 2)) (refuses o logs m k 1) (Can' (Ask k (Put l e)) m)
-    (λ t. cond-both (ltb l logs) (accepts o logs m k (Put l e)) (refuses o logs m k 2) (Can' (Ask k (Put l e)) m) (λ t. can-accept m k (Put l e)) (λ t. not-11 m k 2 (Put l e) (λ e. omega arith))) (λ t. not-11 m k 1 (Put l e) (λ e. omega arith))
+      (λ t. cond-both (ltb l logs) (accepts o logs m k (Put l e)) (refuses o logs m k 2) (Can' (Ask k (Put l e)) m) (λ t. can-accept m k (Put l e)) (λ t. not-11 m k 2 (Put l e) (λ e. omega arith))) (λ t. not-11 m k 1 (Put l e) (λ e. omega arith))
   can-judge m k (Out' f n) = cond-both (leb n 1024) (accepts o logs m k (Out' f n)) (refuses o logs m k 1) (Can' (Ask k (Out' f n)) m) (λ t. can-accept m k (Out' f n)) (λ t. not-11 m k 1 (Out' f n) (λ e. omega arith))
   can-judge m k (Drop n) = not-11 m k 12 (Drop n) (λ e. omega arith)
 
@@ -190,7 +190,7 @@ pub record Fit (m : Mind) : Type 0 where
   pub answering : (k : ℕ) → Ans (m .phase) k → (j : Job) × List·Memᴰ j (m .keep .waiting) × (k ≡ j .number)
 
 fair-of : (x : In ℕ Call) (m : Mind) (r : Step) (k : ℕ) → Can' x m r → Fit m → ((n : ℕ) (c : Call) → x ≡ Ask n c → HasK (m .keep) n → ⊥) → HasK (r .mind .keep) k →
-  (HasK (m .keep) k ⊎ ((c : Call) × (x ≡ Ask k c))) × ((t : Told) → List·Memᴰ t (r .tell) → t .number ≡ k → ⊥)
+    (HasK (m .keep) k ⊎ ((c : Call) × (x ≡ Ask k c))) × ((t : Told) → List·Memᴰ t (r .tell) → t .number ≡ k → ⊥)
 fair-of x m r k (keeps t e) fit new h = (inl (subst (λ z. HasK z k) e h), λ a m. elim (subst (List·Memᴰ a) t m) [ ])
 fair-of x m r k (fixes l t e nb) fit new h = (inl (go (subst (λ z. HasK z k) e h)), λ a m. elim (subst (List·Memᴰ a) t m) [ ])
   where
@@ -209,10 +209,10 @@ fair-of x m r k (answers n ev an t e) fit new h = go (subst (λ z. HasK z k) e h
 
     go : HasK (waits (m .keep) (keepIf (λ j. not (eqb (j .number) n)) (m .keep .waiting))) k → (HasK (m .keep) k ⊎ ((c : Call) × (x ≡ Ask k c))) × ((t : Told) → List·Memᴰ t (r .tell) → t .number ≡ k → ⊥)
     go (inl z) = let y = in-keep (λ j. not (eqb (j .number) n)) (m .keep .waiting) (z .0) (z .1) in
-      (inl (inl (z .0, y .0, z .2)), λ a u w. both-ways (not (eqb (z .0 .number) n)) (ap not (eq-eqb (z .0 .number) n (sym (z .2) ∙ (sym w ∙ one a u)))) (y .1))
+        (inl (inl (z .0, y .0, z .2)), λ a u w. both-ways (not (eqb (z .0 .number) n)) (ap not (eq-eqb (z .0 .number) n (sym (z .2) ∙ (sym w ∙ one a u)))) (y .1))
     go (inr z) = let w = fit .answering n an in (inl (inr z), λ a u v. fit .apart .batch (z .0) (z .1) (z .2) .1 (z .3) (z .4) (w .0) (w .1) (sym (z .5) ∙ (sym v ∙ (one a u ∙ w .2))))
 fair-of x m r k (refuses' n w c xe t e lots) fit new h = let q = subst (λ z. HasK z k) e h in
-  (inl q, λ a y u. new n c xe (subst (HasK (m .keep)) (sym u ∙ all-cons (λ a. a .number ≡ n) refl (all-none (λ a. a .number ≡ n)) a (subst (List·Memᴰ a) t y)) q))
+    (inl q, λ a y u. new n c xe (subst (HasK (m .keep)) (sym u ∙ all-cons (λ a. a .number ≡ n) refl (all-none (λ a. a .number ≡ n)) a (subst (List·Memᴰ a) t y)) q))
 fair-of x m r k (accepts' n c xe t e) fit new h = (go (subst (λ z. HasK z k) e h), λ a m. elim (subst (List·Memᴰ a) t m) [ ])
   where
     go : HasK (waits (m .keep) (m .keep .waiting ++ (record { number = n; call = c } ∷ []))) k → HasK (m .keep) k ⊎ ((c : Call) × (x ≡ Ask k c))
@@ -225,8 +225,8 @@ busy-of x m r k (fixes l t e nb) y = elim (subst (List·Memᴰ (record { number 
 busy-of x m r k (settles l ps b t e) y = let z = in-yeses ps (record { number = k; reply = No 11 }) (subst (List·Memᴰ (record { number = k; reply = No 11 })) t y) in let u : No 11 ≡ Yes = z .3 in absurd (let z : _≡_ {A = ℕ} 0 1 = cc in omega arith)
 busy-of x m r k (answers n ev an t e) y = let u : No 11 ≡ Outs ev = all-cons (λ a. a .reply ≡ Outs ev) refl (all-none (λ a. a .reply ≡ Outs ev)) (record { number = k; reply = No 11 }) (subst (List·Memᴰ (record { number = k; reply = No 11 })) t y) in absurd (let z : _≡_ {A = ℕ} 0 1 = cc in omega arith)
 busy-of x m r k (refuses' n w c xe t e lots) y =
-  let u : (k ≡ n) × (No 11 ≡ No w) = all-cons (λ a. (a .number ≡ n) × (a .reply ≡ No w)) (refl, refl) (all-none (λ a. (a .number ≡ n) × (a .reply ≡ No w))) (record { number = k; reply = No 11 }) (subst (List·Memᴰ (record { number = k; reply = No 11 })) t y) in
-  let v = u .1 in let q : w ≡ 11 = cc in (c, xe ∙ ap (λ z. Ask z c) (sym (u .0)), lots q)
+    let u : (k ≡ n) × (No 11 ≡ No w) = all-cons (λ a. (a .number ≡ n) × (a .reply ≡ No w)) (refl, refl) (all-none (λ a. (a .number ≡ n) × (a .reply ≡ No w))) (record { number = k; reply = No 11 }) (subst (List·Memᴰ (record { number = k; reply = No 11 })) t y) in
+    let v = u .1 in let q : w ≡ 11 = cc in (c, xe ∙ ap (λ z. Ask z c) (sym (u .0)), lots q)
 busy-of x m r k (accepts' n c xe t e) y = elim (subst (List·Memᴰ (record { number = k; reply = No 11 })) t y) [ ]
 
 -- how many
@@ -281,20 +281,20 @@ module _ (o : Ops) (p : Plan) (logs : ℕ) (L : Laws o p logs) where
 
   fit-ok : (all n : ℕ) (es : List (Seen Call Reply)) (s : Scene Mind ℕ) → all ≤ 64 → n < 72057594037927936 → Goes (worker o logs) all n es s → (i c : ℕ) (m : Mind) → s .hand i ≡ here c m → Fit m
   fit-ok all n es s al sm g i c m e = let v = inv o p logs L al (let f = L .far in omega arith) g in let k = v .3 .hands i c m e in
-    record { apart = record { waiting = k .keep .distinct; batch = λ l ps b. let q = k .keep .batch l ps b in (q .distinct, q .clear) }; answering = fit-phase (v .0) (s .box) (s .ways) i c (m .asked) (m .keep) (m .phase) (k .phase) }
+      record { apart = record { waiting = k .keep .distinct; batch = λ l ps b. let q = k .keep .batch l ps b in (q .distinct, q .clear) }; answering = fit-phase (v .0) (s .box) (s .ways) i c (m .asked) (m .keep) (m .phase) (k .phase) }
 
   pub worker-busy : {all n : ℕ} {es : List (Seen Call Reply)} {s : Scene Mind ℕ} → all ≤ 64 → n < 72057594037927936 → Goes (worker o logs) all n es s → (i c k : ℕ) (m : Mind) (x : In ℕ Call) → s .hand i ≡ here c m → List·Memᴰ (Tell k (No 11)) (worker o logs .turns x m .does) →
-    (d : Call) × (x ≡ Ask k d) × (8 ≤ countAt i (s .waits))
+      (d : Call) × (x ≡ Ask k d) × (8 ≤ countAt i (s .waits))
   worker-busy {all} {n} {es} {s} al sm g i c k m x e t =
-    let r = busy-of x m (acts o logs x m) k (can o logs x m) (told-in (acts o logs x m .mind .asked) (acts o logs x m .ask) (acts o logs x m .tell) k (No 11) t) in
-    let fit = fit-ok all n es s al sm g i c m e in
-    let js = jobs-of (m .keep) (m .keep .batch) refl (fit .apart) in
-    let all-jobs : List Job = m .keep .waiting ++ batched (m .keep .batch) in
-    let q = count-at i (numbers all-jobs) (s .waits) (numbers-differ all-jobs (js .0))
+      let r = busy-of x m (acts o logs x m) k (can o logs x m) (told-in (acts o logs x m .mind .asked) (acts o logs x m .ask) (acts o logs x m .tell) k (No 11) t) in
+      let fit = fit-ok all n es s al sm g i c m e in
+      let js = jobs-of (m .keep) (m .keep .batch) refl (fit .apart) in
+      let all-jobs : List Job = m .keep .waiting ++ batched (m .keep .batch) in
+      let q = count-at i (numbers all-jobs) (s .waits) (numbers-differ all-jobs (js .0))
       (λ k y. let z = in-numbers all-jobs k y in minds-wait (worker o logs) (λ m. HasK (m .keep)) Fit fit-ok (λ me ch k. no-jobs me ch k)
-        (λ x m k ok new h. let f = fair-of x m (acts o logs x m) k (can o logs x m) ok new h in (f .0, λ y u. f .1 (record { number = k; reply = y }) (told-in (acts o logs x m .mind .asked) (acts o logs x m .ask) (acts o logs x m .tell) k y u) refl))
-        al sm g i c m e k (subst (HasK (m .keep)) (sym (z .2)) (js .2 (z .0) (z .1))) .0) in
-    let a = length-numbers all-jobs in let b = length-both (m .keep .waiting) (batched (m .keep .batch)) in let d = js .1 in let h = r .2 in (r .0, r .1, omega (arith, a, b, d, h, q))
+      (λ x m k ok new h. let f = fair-of x m (acts o logs x m) k (can o logs x m) ok new h in (f .0, λ y u. f .1 (record { number = k; reply = y }) (told-in (acts o logs x m .mind .asked) (acts o logs x m .ask) (acts o logs x m .tell) k y u) refl))
+      al sm g i c m e k (subst (HasK (m .keep)) (sym (z .2)) (js .2 (z .0) (z .1))) .0) in
+      let a = length-numbers all-jobs in let b = length-both (m .keep .waiting) (batched (m .keep .batch)) in let d = js .1 in let h = r .2 in (r .0, r .1, omega (arith, a, b, d, h, q))
     where
       no-jobs : (me ch k : ℕ) → HasK (worker o logs .begins me ch .keep) k → ⊥
       no-jobs me ch k (inl z) = elim (z .1) [ ]

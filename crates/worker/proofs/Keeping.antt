@@ -14,8 +14,8 @@ use Rattle.streams.specs.Hands.{Box, In, From, Shown, Filled, Ask, Beat, Out, T
 use Rattle.interface.specs.Ops.{Ops}
 use Rattle.worker.specs.Worker.{Job, Batch, none, some, Phase, Keep, Mind, Told, Asks, Step, keeping, waits, fixed, settled', stays, start, forLog, keepIf, yeses, putsOf, isRest, refuses, accepts, judges, acts, telling, asking', worker}
 use Rattle.shelf.proofs.Counts.{stay-without}
-use Rattle.worker.proofs.Workinv.{none-some}
-use Rattle.worker.proofs.Workbusy.{HasK, Can', keeps, fixes, settles, answers, refuses', accepts', can, kp-start}
+use Rattle.worker.proofs.Invariant.{none-some}
+use Rattle.worker.proofs.Busy.{HasK, Can', keeps, fixes, settles, answers, refuses', accepts', can, kp-start}
 
 keep-in : (f : Job → Bool) (js : List Job) (j : Job) → List·Memᴰ j js → f j ≡ true → List·Memᴰ j (keepIf f js)
 unfolding keepIf
@@ -36,15 +36,15 @@ keeps-of : (x : In ℕ Call) (m : Mind) (r : Step) (k : ℕ) → Can' x m r → 
 keeps-of x m r k (keeps t e) h = inl (subst (λ z. HasK z k) (sym e) h)
 keeps-of x m r k (fixes l t e nb) (inr z) = absurd (none-some (sym nb ∙ z .2))
 keeps-of x m r k (fixes l t e nb) (inl z) = inl (subst (λ u. HasK u k) (sym e) (⊎-elim
-  (λ f. inr (l, keepIf (λ j. forLog l (j .call)) (m .keep .waiting), refl, z .0, keep-in (λ j. forLog l (j .call)) (m .keep .waiting) (z .0) (z .1) f, z .2))
-  (λ f. inl (z .0, keep-in (λ j. not (forLog l (j .call))) (m .keep .waiting) (z .0) (z .1) (not-from-false (forLog l (z .0 .call)) f), z .2)) (cases-bool (forLog l (z .0 .call)))))
+    (λ f. inr (l, keepIf (λ j. forLog l (j .call)) (m .keep .waiting), refl, z .0, keep-in (λ j. forLog l (j .call)) (m .keep .waiting) (z .0) (z .1) f, z .2))
+    (λ f. inl (z .0, keep-in (λ j. not (forLog l (j .call))) (m .keep .waiting) (z .0) (z .1) (not-from-false (forLog l (z .0 .call)) f), z .2)) (cases-bool (forLog l (z .0 .call)))))
 keeps-of x m r k (settles l ps b t e) (inl z) = inl (subst (λ u. HasK u k) (sym e) (inl z))
 keeps-of x m r k (settles l ps b t e) (inr z) = let q : _≡_ {A = Batch} (some (z .0) (z .1)) (some l ps) = sym (z .2) ∙ b in let u : z .1 ≡ ps = cc in
-  inr (Yes, subst (List·Memᴰ (record { number = k; reply = Yes })) (sym t) (subst (λ w. List·Memᴰ (record { number = w; reply = Yes }) (yeses ps)) (sym (z .5)) (yes-in ps (z .3) (subst (List·Memᴰ (z .3)) u (z .4)))))
+    inr (Yes, subst (List·Memᴰ (record { number = k; reply = Yes })) (sym t) (subst (λ w. List·Memᴰ (record { number = w; reply = Yes }) (yeses ps)) (sym (z .5)) (yes-in ps (z .3) (subst (List·Memᴰ (z .3)) u (z .4)))))
 keeps-of x m r k (answers n ev an t e) (inr z) = inl (subst (λ u. HasK u k) (sym e) (inr z))
 keeps-of x m r k (answers n ev an t e) (inl z) = ⊎-elim
-  (λ f. inr (Outs ev, subst (List·Memᴰ (record { number = k; reply = Outs ev })) (sym t) (List·Memᴰ·head (ap (λ w. record { number = w; reply = Outs ev }) (z .2 ∙ eqb-true (z .0 .number) n f)))))
-  (λ f. inl (subst (λ u. HasK u k) (sym e) (inl (z .0, keep-in (λ j. not (eqb (j .number) n)) (m .keep .waiting) (z .0) (z .1) (not-from-false (eqb (z .0 .number) n) f), z .2)))) (cases-bool (eqb (z .0 .number) n))
+    (λ f. inr (Outs ev, subst (List·Memᴰ (record { number = k; reply = Outs ev })) (sym t) (List·Memᴰ·head (ap (λ w. record { number = w; reply = Outs ev }) (z .2 ∙ eqb-true (z .0 .number) n f)))))
+    (λ f. inl (subst (λ u. HasK u k) (sym e) (inl (z .0, keep-in (λ j. not (eqb (j .number) n)) (m .keep .waiting) (z .0) (z .1) (not-from-false (eqb (z .0 .number) n) f), z .2)))) (cases-bool (eqb (z .0 .number) n))
 keeps-of x m r k (refuses' n w c xe t e lots) h = inl (subst (λ z. HasK z k) (sym e) h)
 keeps-of x m r k (accepts' n c xe t e) (inr z) = inl (subst (λ u. HasK u k) (sym e) (inr z))
 keeps-of x m r k (accepts' n c xe t e) (inl z) = inl (subst (λ u. HasK u k) (sym e) (inl (z .0, Memᴰ·append-left (record { number = n; call = c } ∷ []) (z .1), z .2)))
@@ -64,7 +64,7 @@ module _ (o : Ops) (logs : ℕ) where
 
   takes-judge : (m : Mind) (k : ℕ) (c : Call) → Stays k (judges o logs m k c)
   takes-judge m k (Put l e) = cond-both (entryOk e) (cond (ltb l logs) (accepts o logs m k (Put l e)) (refuses o logs m k 2)) (refuses o logs m k 1) (Stays k)
-    (λ t. cond-both (ltb l logs) (accepts o logs m k (Put l e)) (refuses o logs m k 2) (Stays k) (λ t. takes-accept m k (Put l e)) (λ t. no m k 2)) (λ t. no m k 1)
+      (λ t. cond-both (ltb l logs) (accepts o logs m k (Put l e)) (refuses o logs m k 2) (Stays k) (λ t. takes-accept m k (Put l e)) (λ t. no m k 2)) (λ t. no m k 1)
   takes-judge m k (Out' f n) = cond-both (leb n 1024) (accepts o logs m k (Out' f n)) (refuses o logs m k 1) (Stays k) (λ t. takes-accept m k (Out' f n)) (λ t. no m k 1)
   takes-judge m k (Drop n) = no m k 12
 
@@ -100,7 +100,7 @@ module _ {M O R : Type 0} where
   settled-or i k (Show q b ∷ os) ws m = settled-or i k os ws m
   settled-or i k (Fill q b e bs ∷ os) ws m = settled-or i k os ws m
   settled-or i k (Tell n y ∷ os) ws m = ⊎-elim (λ t. inr (y, List·Memᴰ·head (ap (λ z. told i z y) (sym (eqb-true n k t)))))
-    (λ t. ⊎-elim (λ z. inl z) (λ z. inr (z .0, List·Memᴰ·tail (z .1))) (settled-or i k os _ (stay-without i n ws (record { hand = i; number = k }) m (λ _ z. eqb-false n k t z)))) (cases-bool (eqb n k))
+      (λ t. ⊎-elim (λ z. inl z) (λ z. inr (z .0, List·Memᴰ·tail (z .1))) (settled-or i k os _ (stay-without i n ws (record { hand = i; number = k }) m (λ _ z. eqb-false n k t z)))) (cases-bool (eqb n k))
 
   pub alone-waits : {h : Hand M O R} {i : ℕ} {s t : Scene (h .Mind) M} {fs : List (Seen O R)} → Alone h i s fs t → (k : ℕ) → List·Memᴰ (record { hand = i; number = k }) (s .waits) → List·Memᴰ (record { hand = i; number = k }) (t .waits) ⊎ ((r : R) × List·Memᴰ (told i k r) fs)
   alone-waits stay k m = inl m

@@ -17,21 +17,22 @@ use Rattle.worker.specs.Worker.{Job, Batch, none, some, Phase, rest, answer', 
 use Rattle.interface.specs.Plain.{Plain}
 use Rattle.interface.specs.Live.{Live, AnswersAll}
 use Rattle.worker.specs.Theorems.{WorkerEnds, WorkerOut}
-use Rattle.shelf.proofs.Alones.{Waiting, waits-ok, at-self}
-use Rattle.worker.proofs.Workinv.{none-some, Good}
-use Rattle.worker.proofs.Workbook.{inv}
-use Rattle.worker.proofs.Workjobs.{stateOf}
+use Rattle.shelf.proofs.Places.{at-self}
+use Rattle.shelf.proofs.Waiting.{Waiting, waits-ok}
+use Rattle.worker.proofs.Invariant.{none-some, Good}
+use Rattle.worker.proofs.Onebook.{inv}
+use Rattle.worker.proofs.Jobs.{stateOf}
 use Rattle.worker.proofs.Plainlaws.{W, plain-laws}
-use Rattle.worker.proofs.Workwaits.{HasM, worker-keeps-calls, worker-takes-calls, alone-waits, count-none}
-use Rattle.worker.proofs.Workalone.{Mid, At, begun}
-use Rattle.worker.proofs.Workends.{Final, all-ends, Answered, ask-answer, Right'}
+use Rattle.worker.proofs.Keeping.{HasM, worker-keeps-calls, worker-takes-calls, alone-waits, count-none}
+use Rattle.worker.proofs.Alone.{Mid, At, begun}
+use Rattle.worker.proofs.Ends.{Final, all-ends, Answered, ask-answer, Right'}
 
 empty-has : (k : Keep) (n : ℕ) → k .batch ≡ none → k .waiting ≡ [] → ((j : Job) × List·Memᴰ j (k .waiting) × (n ≡ j .number)) ⊎ ((l : ℕ) × (ps : List Job) × (k .batch ≡ some l ps) × (j : Job) × List·Memᴰ j ps × (n ≡ j .number)) → ⊥
 empty-has k n b w (inl z) = elim (subst (List·Memᴰ (z .0)) w (z .1)) [ ]
 empty-has k n b w (inr z) = none-some (sym b ∙ z .2)
 
 module _ (o : Ops) (p : Plan) (logs : ℕ) (P : Plain o p logs) (V : Live o p logs P) (one : 1 ≤ logs) (all n : ℕ) (al : all ≤ 64) (sm : n < 72057594037927936) (es : List (Seen Call Reply)) (s : Scene Mind ℕ) (g : Goes (worker o logs) all n es s)
-  (i c : ℕ) (m : Mind) (lt : i < all) (e : s .hand i ≡ here c m) where
+    (i c : ℕ) (m : Mind) (lt : i < all) (e : s .hand i ≡ here c m) where
   abbrev H : Hand ℕ Call Reply
   H = worker o logs
 
@@ -41,10 +42,10 @@ module _ (o : Ops) (p : Plan) (logs : ℕ) (P : Plain o p logs) (V : Live o p lo
   -- room for all
   tot : (t : ℕ) × (t + 2 * V .long + 20 < P .bound) × Final o p logs P V one all i c al lt es s t
   tot = let v = inv o p logs (plain-laws o p logs P) al far g in let q = v .3 .sound in
-    let en = V .enough sm (subst (P .Sound n (v .0 .ls)) (q .is) (q .sound)) in
-    let b = begun o logs all i c lt es s m g e in let le = b .1 in
-    let t : ℕ = n + 2 + 12 * V .work (s .box 0 .bytes) (s .box) + 24 * logs + 40 + 10 * (12 * V .heavy + 12 * V .long + 40) in
-    (t, omega (arith, en), all-ends o p logs P V one all i c al lt es s (hearing m false) (s .box) (b .0) t (omega (arith, en)) (omega (arith, le)) (b .2))
+      let en = V .enough sm (subst (P .Sound n (v .0 .ls)) (q .is) (q .sound)) in
+      let b = begun o logs all i c lt es s m g e in let le = b .1 in
+      let t : ℕ = n + 2 + 12 * V .work (s .box 0 .bytes) (s .box) + 24 * logs + 40 + 10 * (12 * V .heavy + 12 * V .long + 40) in
+      (t, omega (arith, en), all-ends o p logs P V one all i c al lt es s (hearing m false) (s .box) (b .0) t (omega (arith, en)) (omega (arith, le)) (b .2))
 
   abbrev F : Final o p logs P V one all i c al lt es s (tot .0)
   F = tot .2
@@ -57,7 +58,7 @@ module _ (o : Ops) (p : Plan) (logs : ℕ) (P : Plain o p logs) (V : Live o p lo
 
   no-waits : (a : Waits) → List·Memᴰ a (to .waits) → i ≡ a .hand → ⊥
   no-waits a k y = let h = waits-ok H HasM (worker-keeps-calls o logs) (worker-takes-calls o logs) (F .at' .mid .goes) a k in
-    empty-has (F .m .keep) (a .number) (F .empty .0) (F .empty .1) (subst (λ z. Waiting HasM z (a .number)) (ap (to .hand) (sym y) ∙ F .at' .mid .minds) h)
+      empty-has (F .m .keep) (a .number) (F .empty .0) (F .empty .1) (subst (λ z. Waiting HasM z (a .number)) (ap (to .hand) (sym y) ∙ F .at' .mid .minds) h)
 
   pub one-enough : (fs : List (Seen Call Reply)) × (t : Scene Mind ℕ) × Alone H i s fs t × ((k : ℕ) → List·Memᴰ (record { hand = i; number = k }) (s .waits) → (r : Reply) × List·Memᴰ (told i k r) fs)
   one-enough = (F .at' .mid .fs, to, F .at' .mid .run, λ k w. ⊎-elim (λ z. absurd (no-waits (record { hand = i; number = k }) z refl)) (λ z. z) (alone-waits (F .at' .mid .run) k w))
@@ -90,11 +91,11 @@ module _ (o : Ops) (p : Plan) (logs : ℕ) (P : Plain o p logs) (V : Live o p lo
 
   logs-then : (ls : List (List Entry)) × P .Sound (F .n) ls (to .box) × (os : List (Open Call)) × (rs : List (Ready Reply)) × Book (streams p logs core) (F .at' .mid .fs ++ es) (stateOf p logs ls) os rs
   logs-then = let v = inv o p logs (plain-laws o p logs P) al (let a = near in omega (arith, a)) (F .at' .mid .goes) in let q = v .3 .sound in let b = v .3 .loose in
-    (v .0 .ls, subst (P .Sound (F .n) (v .0 .ls)) (q .is) (q .sound), b .opens, b .readies, b .book)
+      (v .0 .ls, subst (P .Sound (F .n) (v .0 .ls)) (q .is) (q .sound), b .opens, b .readies, b .book)
 
   abbrev Tells : (k from most : ℕ) → Mind → Type 0
   Tells k from most v = (gs : List (Seen Call Reply)) × (w : Scene Mind ℕ) × Alone H i (turned H i c (H .turns (Ask k (Out' from most)) v) (asking i k to)) gs w ×
-    List·Memᴰ (told i k (Outs (firstOf most (dropOf from (out p (logs-then .0)))))) (gs ++ tells i (H .turns (Ask k (Out' from most)) v .does))
+      List·Memᴰ (told i k (Outs (firstOf most (dropOf from (out p (logs-then .0)))))) (gs ++ tells i (H .turns (Ask k (Out' from most)) v .does))
 
   answers-M : AnswersAll o p logs P V → (k from most : ℕ) → T (not (isUsed k (F .at' .mid .fs ++ es))) → k < 18446744073709551616 → most ≤ 1024 → Tells k from most M
   answers-M every k from most un ks ms =
@@ -120,7 +121,7 @@ module _ (o : Ops) (p : Plan) (logs : ℕ) (P : Plain o p logs) (V : Live o p lo
 
       r : Answered o p logs P V one all i c al lt es2 s2 (hearing m2 false .keep) (to .box) (b .0 + 2 * V .long + 4) k from most
       r = ask-answer o p logs P V one all i c al lt es2 s2 (hearing m2 false) (to .box) (b .0) k from most (b .0 + 2 * V .long + 4) (let a = near in let z = b .1 in omega (arith, a, z)) (omega arith)
-        (subst₂ (λ y z. At o logs all i c lt es2 s2 (startBy o logs (hearing m2 false) y z) (to .box) (b .0)) (ap (λ z. z .batch) (q .3) ∙ q .1) (ap (λ z. z .waiting) (q .3) ∙ q .2) (b .2))
+          (subst₂ (λ y z. At o logs all i c lt es2 s2 (startBy o logs (hearing m2 false) y z) (to .box) (b .0)) (ap (λ z. z .batch) (q .3) ∙ q .1) (ap (λ z. z .waiting) (q .3) ∙ q .2) (b .2))
 
       f-is : F .f ≡ to .box
       f-is = sym (F .at' .mid .boxes)
@@ -132,11 +133,20 @@ module _ (o : Ops) (p : Plan) (logs : ℕ) (P : Plain o p logs) (V : Live o p lo
   same-mind v hv = let u : _≡_ {A = Stand Mind} (here c M) (here c v) = sym (F .at' .mid .minds) ∙ hv in (cc)
 
   pub comes-out : AnswersAll o p logs P V → (fs : List (Seen Call Reply)) × (t : Scene Mind ℕ) × Alone H i s fs t × (countAt i (t .waits) ≡ 0) × (u : State) × (os : List (Open Call)) × (rs : List (Ready Reply)) × Book (streams p logs core) (fs ++ es) u os rs ×
-    ((k from most : ℕ) (v : Mind) → t .hand i ≡ here c v → T (not (isUsed k (fs ++ es))) → k < 18446744073709551616 → most ≤ 1024 → u .dropped ≤ from →
+      ((k from most : ℕ) (v : Mind) → t .hand i ≡ here c v → T (not (isUsed k (fs ++ es))) → k < 18446744073709551616 → most ≤ 1024 → u .dropped ≤ from →
       (gs : List (Seen Call Reply)) × (w : Scene Mind ℕ) × Alone H i (turned H i c (H .turns (Ask k (Out' from most)) v) (asking i k t)) gs w ×
       List·Memᴰ (told i k (Outs (firstOf most (dropOf from (out p (u .logs)))))) (gs ++ tells i (H .turns (Ask k (Out' from most)) v .does)))
-  comes-out every = (F .at' .mid .fs, to, F .at' .mid .run, count-none i (to .waits) no-waits, stateOf p logs (logs-then .0), logs-then .2, logs-then .3, logs-then .4,
-    λ k from most v hv un ks ms dr. subst (Tells k from most) (same-mind v hv) (answers-M every k from most un ks ms))
+  comes-out every = (
+    F .at' .mid .fs,
+    to,
+    F .at' .mid .run,
+    count-none i (to .waits) no-waits,
+    stateOf p logs (logs-then .0),
+    logs-then .2,
+    logs-then .3,
+    logs-then .4,
+    λ k from most v hv un ks ms dr. subst (Tells k from most) (same-mind v hv) (answers-M every k from most un ks ms),
+  )
 
 pub worker-ends : WorkerEnds
 worker-ends o p logs P V one all n oneA al sm es s g i c m lt e = one-enough o p logs P V one all n al sm es s g i c m lt e

@@ -15,13 +15,13 @@ use Rattle.interface.specs.Ops.{Gives, lacks, gives, nothing, Next, page, reply
 use Rattle.worker.specs.Worker.{Job, Batch, none, some, Phase, rest, log, put, ledger, answer', gather, Keep, Mind, Told, Asks, none', show, fill, Step, stays, asks, keeping, hearing, looking, waits, fixed, settled', saying, forLog, keepIf, entries, yeses, putsOf, readLedger, startCall, startBy, start, idleBy, idle, settle, fillLog, putting, onLogBy, onPutBy, gatherBy, gathers, onShown, onFilled, acts, isRest}
 use Rattle.interface.specs.Plain.{Plain, Now}
 use Rattle.interface.specs.Live.{Live}
-use Rattle.shelf.proofs.Alones.{at-self}
-use Rattle.worker.proofs.Workjobs.{keep-split, keep-less, entries-few}
-use Rattle.worker.proofs.Workinv.{log-some, Good, CallOk, HandOk, KeepOk, BatchOk}
-use Rattle.worker.proofs.Workbook.{inv}
+use Rattle.shelf.proofs.Places.{at-self}
+use Rattle.worker.proofs.Jobs.{keep-split, keep-less, entries-few}
+use Rattle.worker.proofs.Invariant.{log-some, Good, CallOk, HandOk, KeepOk, BatchOk}
+use Rattle.worker.proofs.Onebook.{inv}
 use Rattle.worker.proofs.Plainlaws.{W, plain-laws}
-use Rattle.worker.proofs.Workalone.{Mid, At, see, mid-turn}
-use Rattle.worker.proofs.Workledger.{A, sound-at, fit-of, pours, other, next, ahead, Todo, Done, ledger-done}
+use Rattle.worker.proofs.Alone.{Mid, At, see, mid-turn}
+use Rattle.worker.proofs.Tending.{A, sound-at, fit-of, pours, other, next, ahead, Todo, Done, ledger-done}
 
 diff : (a b : ℕ) → a ≤ b → (d : ℕ) × (b ≡ a + d)
 diff zero b le = (b, omega arith)
@@ -49,7 +49,7 @@ module _ (o : Ops) (p : Plan) (logs : ℕ) (P : Plain o p logs) (V : Live o p lo
 
   pub keep-at : {r : Step} {f : ℕ → Box} {n : ℕ} → B r f n → n < P .bound → KeepFacts (r .mind .keep)
   keep-at {r} {f} {n} a sm = let v = inv o p logs (plain-laws o p logs P) al sm (a .mid .goes) in let k = v .3 .hands i c (r .mind) (a .mid .minds) .keep in
-    record { few = k .few; ok = k .ok; in-logs = λ l ps e. k .batch l ps e .in-logs }
+      record { few = k .few; ok = k .ok; in-logs = λ l ps e. k .batch l ps e .in-logs }
 
   snd : {r : Step} {f : ℕ → Box} {n : ℕ} → B r f n → n < P .bound → (ls : List (List Entry)) × P .Sound n ls f
   snd a sm = sound-at o p logs P V one all i c al lt es s a sm
@@ -88,7 +88,7 @@ module _ (o : Ops) (p : Plan) (logs : ℕ) (P : Plain o p logs) (V : Live o p lo
   settles m f n l ps k0 tot fw sp a = record { m = keeping m (settled' (m .keep)); f = f; n = n; at' = unsay (yeses ps) (quiet-idle (keeping m (settled' (m .keep))) none (m .keep .waiting)) a; fewer = fw; spent = sp }
 
   puts : (m : Mind) (f : ℕ → Box) (n l : ℕ) (ps : List Job) (k k0 : Keep) (tot : ℕ) → tot < P .bound → l < logs → length (entries ps) ≤ 8 → k .batch ≡ some l ps → length (k .waiting) < jobsIn k0 → n + 12 * W0 f + 12 * V .heavy + 4 ≤ tot →
-    B (putting o logs m k l ps (f (logBox l))) f n → Less k0 tot ⊎ (B (readLedger o logs (looking m (m .floor) l 1)) f n × Stuck l (m .floor) f)
+      B (putting o logs m k l ps (f (logBox l))) f n → Less k0 tot ⊎ (B (readLedger o logs (looking m (m .floor) l 1)) f n × Stuck l (m .floor) f)
   puts m f n l ps k k0 tot tb ll few kb fw bud a = by (o .adds (m .floor) (k .me) (k .chance) (k .serial) l (f (logBox l) .bytes) (entries ps)) refl a
     where
       by : (g : Gives) → o .adds (m .floor) (k .me) (k .chance) (k .serial) l (f (logBox l) .bytes) (entries ps) ≡ g → B (fillLog o logs m k l (f (logBox l) .edition) g) f n → Less k0 tot ⊎ (B (readLedger o logs (looking m (m .floor) l 1)) f n × Stuck l (m .floor) f)
@@ -107,7 +107,7 @@ module _ (o : Ops) (p : Plan) (logs : ℕ) (P : Plain o p logs) (V : Live o p lo
 
           wk : V .work (f 0 .bytes) f1 ≤ W0 f + V .heavy
           wk = V .work-put (f (logBox l) .edition + 1) (omega (arith, bud, tb)) (omega (arith, bud, tb)) (snd a (omega (arith, bud, tb)) .1) (k .me) (k .chance) (k .serial) l (m .floor) bs (entries ps) ll few e
-            (fit-of o p logs P V one all i c al lt es s (logBox l) (f (logBox l) .edition) bs (inr (l, ll, refl)) refl refl (omega (arith, bud, tb)) a .1 .1)
+              (fit-of o p logs P V one all i c al lt es s (logBox l) (f (logBox l) .edition) bs (inr (l, ll, refl)) refl refl (omega (arith, bud, tb)) a .1 .1)
 
   some-jobs : (k : Keep) (l : ℕ) (ps : List Job) → k .batch ≡ some l ps → jobsIn k ≡ length (k .waiting) + 1
   some-jobs k l ps e = ap (λ z. length (k .waiting) + batchOne z) e
@@ -117,7 +117,7 @@ module _ (o : Ops) (p : Plan) (logs : ℕ) (P : Plain o p logs) (V : Live o p lo
   drop-one f j js e = subst (λ z. length z ≤ length js) (sym (cond-false (f j) (j ∷ keepIf f js) (keepIf f js) e)) (keep-less f js)
 
   visit : (l : ℕ) (m : Mind) (f : ℕ → Box) (n tot : ℕ) → tot < P .bound → Which l (m .keep) → l < logs → KeepFacts (m .keep) → n + 12 * W0 f + 12 * V .heavy + 6 ≤ tot → B (asks m (show (logBox l)) (log l)) f n →
-    Less (m .keep) tot ⊎ (B (readLedger o logs (looking (hearing (asks m (show (logBox l)) (log l) .mind) true) (m .floor) l 1)) f (suc (suc n)) × Stuck l (m .floor) f)
+      Less (m .keep) tot ⊎ (B (readLedger o logs (looking (hearing (asks m (show (logBox l)) (log l) .mind) true) (m .floor) l 1)) f (suc (suc n)) × Stuck l (m .floor) f)
   visit l m f n tot tb (fixed' ps e) ll kf bud a = by (cases-bool (o .has (f (logBox l) .bytes) (m .keep .me) (m .keep .chance) (m .keep .serial)))
     where
       m1 : Mind
@@ -125,16 +125,16 @@ module _ (o : Ops) (p : Plan) (logs : ℕ) (P : Plain o p logs) (V : Live o p lo
 
       a1 : B (cond (o .has (f (logBox l) .bytes) (m .keep .me) (m .keep .chance) (m .keep .serial)) (settle o logs m1 ps) (putting o logs m1 (m .keep) l ps (f (logBox l)))) f (suc (suc n))
       a1 = subst (λ z. B z f (suc (suc n))) (cond-true (eqb l l) (cond (o .has (f (logBox l) .bytes) (m .keep .me) (m .keep .chance) (m .keep .serial)) (settle o logs m1 ps) (putting o logs m1 (m .keep) l ps (f (logBox l)))) (start o logs m1) (eq-eqb l l refl))
-        (subst (λ z. B (onLogBy o logs m1 l (f (logBox l)) z) f (suc (suc n))) e (see o logs all i c lt es s (logBox l) refl a))
+          (subst (λ z. B (onLogBy o logs m1 l (f (logBox l)) z) f (suc (suc n))) e (see o logs all i c lt es s (logBox l) refl a))
 
       few : length (entries ps) ≤ 8
       few = let q = entries-few ps in let r = kf .few in let u : putsOf (m .keep .batch) ≡ length ps = ap putsOf e in omega (arith, q, r, u)
 
       by : (o .has (f (logBox l) .bytes) (m .keep .me) (m .keep .chance) (m .keep .serial) ≡ true) ⊎ (o .has (f (logBox l) .bytes) (m .keep .me) (m .keep .chance) (m .keep .serial) ≡ false) →
-        Less (m .keep) tot ⊎ (B (readLedger o logs (looking m1 (m .floor) l 1)) f (suc (suc n)) × Stuck l (m .floor) f)
+          Less (m .keep) tot ⊎ (B (readLedger o logs (looking m1 (m .floor) l 1)) f (suc (suc n)) × Stuck l (m .floor) f)
       by (inl t) = let q = some-jobs (m .keep) l ps e in inl (settles m1 f (suc (suc n)) l ps (m .keep) tot (omega (arith, q)) (omega (arith, bud)) (subst (λ z. B z f (suc (suc n))) (cond-true (o .has (f (logBox l) .bytes) (m .keep .me) (m .keep .chance) (m .keep .serial)) (settle o logs m1 ps) (putting o logs m1 (m .keep) l ps (f (logBox l))) t) a1))
       by (inr t) = let q = some-jobs (m .keep) l ps e in puts m1 f (suc (suc n)) l ps (m .keep) (m .keep) tot tb ll few e (omega (arith, q)) (omega (arith, bud))
-        (subst (λ z. B z f (suc (suc n))) (cond-false (o .has (f (logBox l) .bytes) (m .keep .me) (m .keep .chance) (m .keep .serial)) (settle o logs m1 ps) (putting o logs m1 (m .keep) l ps (f (logBox l))) t) a1)
+          (subst (λ z. B z f (suc (suc n))) (cond-false (o .has (f (logBox l) .bytes) (m .keep .me) (m .keep .chance) (m .keep .serial)) (settle o logs m1 ps) (putting o logs m1 (m .keep) l ps (f (logBox l))) t) a1)
   visit l m f n tot tb (first' j js e w fo) ll kf bud a = puts m1 f (suc (suc n)) l ps (fixed (m .keep) l ps left) (m .keep) tot tb ll few refl fw (omega (arith, bud))
       (subst (λ z. B (onLogBy o logs m1 l (f (logBox l)) z) f (suc (suc n))) e (see o logs all i c lt es s (logBox l) refl a))
     where
@@ -152,8 +152,8 @@ module _ (o : Ops) (p : Plan) (logs : ℕ) (P : Plain o p logs) (V : Live o p lo
 
       fw : length left < jobsIn (m .keep)
       fw = let q = drop-one (λ j. not (forLog l (j .call))) j js (not-from-true (forLog l (j .call)) fo) in
-        let u : length left ≡ length (keepIf (λ j. not (forLog l (j .call))) (j ∷ js)) = ap (λ z. length (keepIf (λ j. not (forLog l (j .call))) z)) w in
-        let v : length (m .keep .waiting) ≡ suc (length js) = ap length w in omega (arith, q, u, v)
+          let u : length left ≡ length (keepIf (λ j. not (forLog l (j .call))) (j ∷ js)) = ap (λ z. length (keepIf (λ j. not (forLog l (j .call))) z)) w in
+          let v : length (m .keep .waiting) ≡ suc (length js) = ap length w in omega (arith, q, u, v)
 
   -- a log that is to be put into, until it is done
   idle-which : (l : ℕ) (m : Mind) (f : ℕ → Box) (n : ℕ) → Which l (m .keep) → B (idle o logs m) f n → B (asks m (show (logBox l)) (log l)) f n
@@ -197,13 +197,13 @@ module _ (o : Ops) (p : Plan) (logs : ℕ) (P : Plain o p logs) (V : Live o p lo
 
       again : B (readLedger o logs m1) f (suc (suc n)) → Less (m .keep) tot
       again b =
-        let d = ledger-done o p logs P V one all i c al lt es s tot1 (omega (arith, bud, tb)) (2 + W0 f) m1 f (suc (suc n)) ll b (omega arith) (omega arith) in
-        let w2 : Which l (d .m .keep) = subst (Which l) (sym (d .keep)) w in
-        let sp = d .spent in
-        let n2 : d .n < P .bound = omega (arith, sp, bud, tb) in
-        less-on (d .keep) (⊎-elim (λ z. z)
+          let d = ledger-done o p logs P V one all i c al lt es s tot1 (omega (arith, bud, tb)) (2 + W0 f) m1 f (suc (suc n)) ll b (omega arith) (omega arith) in
+          let w2 : Which l (d .m .keep) = subst (Which l) (sym (d .keep)) w in
+          let sp = d .spent in
+          let n2 : d .n < P .bound = omega (arith, sp, bud, tb) in
+          less-on (d .keep) (⊎-elim (λ z. z)
           (λ z. absurd (V .adds-room n2 (snd (d .at') n2 .1) (d .idle') (z .1 .0) (z .1 .1) (z .1 .2) l (d .fl) (z .1 .3) ll (d .took l ll (inl (inl refl))) (z .1 .4)
-            (subst (λ u. o .adds u (z .1 .0) (z .1 .1) (z .1 .2) l (d .f (logBox l) .bytes) (z .1 .3) ≡ lacks) (d .floor) (z .1 .5))))
+          (subst (λ u. o .adds u (z .1 .0) (z .1 .1) (z .1 .2) l (d .f (logBox l) .bytes) (z .1 .3) ≡ lacks) (d .floor) (z .1 .5))))
           (visit l (d .m) (d .f) (d .n) tot tb w2 ll (subst KeepFacts (sym (d .keep)) kf) (omega (arith, sp, bud)) (idle-which l (d .m) (d .f) (d .n) w2 (d .at'))))
 
   -- AN ANSWER
@@ -225,13 +225,13 @@ module _ (o : Ops) (p : Plan) (logs : ℕ) (P : Plain o p logs) (V : Live o p lo
     pub steps : n ≤ top
 
   pub answers : (fuel : ℕ) (m : Mind) (f : ℕ → Box) (n k from most : ℕ) (got : List Event) (top : ℕ) → top < P .bound → V .left from most (f 0 .bytes) got < fuel → n + 2 * fuel ≤ top → Gathered o (Right' f) from most (f 0 .bytes) got →
-    B (gathers o logs m k from most (f 0 .bytes) got) f n → Answered (m .keep) f top k from most
+      B (gathers o logs m k from most (f 0 .bytes) got) f n → Answered (m .keep) f top k from most
   answers zero m f n k from most got top tb ms bud ga a = absurd (omega (arith, ms))
   answers (suc fuel) m f n k from most got top tb ms bud ga a = by (answers fuel) (o .answer from most (f 0 .bytes) got) refl a
     where
       Again : Type 0
       Again = (m : Mind) (f : ℕ → Box) (n k from most : ℕ) (got : List Event) (top : ℕ) → top < P .bound → V .left from most (f 0 .bytes) got < fuel → n + 2 * fuel ≤ top → Gathered o (Right' f) from most (f 0 .bytes) got →
-        B (gathers o logs m k from most (f 0 .bytes) got) f n → Answered (m .keep) f top k from most
+          B (gathers o logs m k from most (f 0 .bytes) got) f n → Answered (m .keep) f top k from most
 
       sm : n < P .bound
       sm = omega (arith, bud, tb)
@@ -242,32 +242,32 @@ module _ (o : Ops) (p : Plan) (logs : ℕ) (P : Plain o p logs) (V : Live o p lo
       by : Again → (x : Next) → o .answer from most (f 0 .bytes) got ≡ x → B (gatherBy o logs m k from most (f 0 .bytes) got x) f n → Answered (m .keep) f top k from most
       by again (reply ev) e a = record { m = m; n = n; got = got; es' = ev; at' = a; keep = refl; is = e; gathered = ga; steps = omega (arith, bud) }
       by again (page b) e a =
-        let sp = P .answer-spent (sd .1) from most (f 0 .bytes) got b (P .led-now (sd .1)) e in
-        let ed = P .spent-filled (sd .1) b sp .1 in
-        let ls = V .left-less sm (sd .1) from most b got e in
-        again m1 f (suc (suc n)) k from most (o .more from most (f 0 .bytes) got (f b .bytes)) top tb (omega (arith, ls, ms)) (omega (arith, bud)) (onePage b (f b .bytes) ga e (sp, refl))
+          let sp = P .answer-spent (sd .1) from most (f 0 .bytes) got b (P .led-now (sd .1)) e in
+          let ed = P .spent-filled (sd .1) b sp .1 in
+          let ls = V .left-less sm (sd .1) from most b got e in
+          again m1 f (suc (suc n)) k from most (o .more from most (f 0 .bytes) got (f b .bytes)) top tb (omega (arith, ls, ms)) (omega (arith, bud)) (onePage b (f b .bytes) ga e (sp, refl))
           (subst (λ z. B z f (suc (suc n))) (cond-false (eqb (f b .edition) 0) (start o logs m1) (gathers o logs m1 k from most (f 0 .bytes) (o .more from most (f 0 .bytes) got (f b .bytes))) (ne-eqb (f b .edition) 0 (λ z. omega (arith, z, ed))))
-            (see o logs all i c lt es s b refl a))
+          (see o logs all i c lt es s b refl a))
         where
           m1 : Mind
           m1 = hearing (asks m (show b) (gather k from most (f 0 .bytes) got b) .mind) true
 
   pub ask-answer : (m : Mind) (f : ℕ → Box) (n k from most top : ℕ) → top < P .bound → n + 2 * V .long + 4 ≤ top → B (asks m (show 0) (answer' k from most)) f n → Answered (m .keep) f top k from most
   ask-answer m f n k from most top tb bud a = let q = V .left-most from most (f 0 .bytes) [] in
-    answers (suc (V .long)) (hearing (asks m (show 0) (answer' k from most) .mind) true) f (suc (suc n)) k from most [] top tb (omega (arith, q)) (omega (arith, bud)) noPage (see o logs all i c lt es s 0 refl a)
+      answers (suc (V .long)) (hearing (asks m (show 0) (answer' k from most) .mind) true) f (suc (suc n)) k from most [] top tb (omega (arith, q)) (omega (arith, bud)) noPage (see o logs all i c lt es s 0 refl a)
 
   abbrev pub C : ℕ
   C = 12 * V .heavy + 12 * V .long + 40
 
   out-round : (m : Mind) (f : ℕ → Box) (n tot : ℕ) (j : Job) (js : List Job) (from most : ℕ) → tot < P .bound → m .keep .waiting ≡ j ∷ js → n + 12 * W0 f + C ≤ tot → B (asks m (show 0) (answer' (j .number) from most)) f n → Less (m .keep) tot
   out-round m f n tot j js from most tb w bud a =
-    let r = ask-answer m f n (j .number) from most (n + 2 * V .long + 4) (omega (arith, bud, tb)) (omega arith) a in
-    let st = r .steps in
-    let q = drop-one (λ a. not (eqb (a .number) (j .number))) j js (not-from-true (eqb (j .number) (j .number)) (eq-eqb (j .number) (j .number) refl)) in
-    let u : length (keepIf (λ a. not (eqb (a .number) (j .number))) (r .m .keep .waiting)) ≡ length (keepIf (λ a. not (eqb (a .number) (j .number))) (j ∷ js)) = ap (λ z. length (keepIf (λ a. not (eqb (a .number) (j .number))) z)) (ap (λ z. z .waiting) (r .keep) ∙ w) in
-    let v : length (m .keep .waiting) ≡ suc (length js) = ap length w in
-    let x : batchOne (r .m .keep .batch) ≡ batchOne (m .keep .batch) = ap (λ z. batchOne (z .batch)) (r .keep) in
-    record { m = gone' (r .m) (j .number); f = f; n = r .n; at' = unsay (record { number = j .number; reply = Outs (r .es') } ∷ []) (quiet-idle (gone' (r .m) (j .number)) (r .m .keep .batch) (keepIf (λ a. not (eqb (a .number) (j .number))) (r .m .keep .waiting))) (r .at'); fewer = omega (arith, q, u, v, x); spent = omega (arith, st, bud) }
+      let r = ask-answer m f n (j .number) from most (n + 2 * V .long + 4) (omega (arith, bud, tb)) (omega arith) a in
+      let st = r .steps in
+      let q = drop-one (λ a. not (eqb (a .number) (j .number))) j js (not-from-true (eqb (j .number) (j .number)) (eq-eqb (j .number) (j .number) refl)) in
+      let u : length (keepIf (λ a. not (eqb (a .number) (j .number))) (r .m .keep .waiting)) ≡ length (keepIf (λ a. not (eqb (a .number) (j .number))) (j ∷ js)) = ap (λ z. length (keepIf (λ a. not (eqb (a .number) (j .number))) z)) (ap (λ z. z .waiting) (r .keep) ∙ w) in
+      let v : length (m .keep .waiting) ≡ suc (length js) = ap length w in
+      let x : batchOne (r .m .keep .batch) ≡ batchOne (m .keep .batch) = ap (λ z. batchOne (z .batch)) (r .keep) in
+      record { m = gone' (r .m) (j .number); f = f; n = r .n; at' = unsay (record { number = j .number; reply = Outs (r .es') } ∷ []) (quiet-idle (gone' (r .m) (j .number)) (r .m .keep .batch) (keepIf (λ a. not (eqb (a .number) (j .number))) (r .m .keep .waiting))) (r .at'); fewer = omega (arith, q, u, v, x); spent = omega (arith, st, bud) }
 
   -- ALL ROUNDS
   abbrev Empty : Keep → Type 0
@@ -309,7 +309,7 @@ module _ (o : Ops) (p : Plan) (logs : ℕ) (P : Plain o p logs) (V : Live o p lo
   ends : (j : ℕ) (m : Mind) (f : ℕ → Box) (n tot : ℕ) → tot < P .bound → jobsIn (m .keep) ≤ j → n + 12 * W0 f + cost j ≤ tot → B (idle o logs m) f n → Rested tot
   ends zero m f n tot tb few bud a = ⊎-elim (λ d. absurd (let q = d .fewer in omega (arith, q, few))) (λ e. record { m = m; f = f; n = n; at' = a; empty = e; spent = omega (arith, bud) }) (round m f n (n + 12 * W0 f + C) (omega (arith, bud, tb)) (omega arith) a)
   ends (suc j) m f n tot tb few bud a = ⊎-elim (λ d. let q = d .fewer in let sp = d .spent in ends j (d .m) (d .f) (d .n) tot tb (omega (arith, q, few)) (omega (arith, sp, bud)) (d .at')) (λ e. record { m = m; f = f; n = n; at' = a; empty = e; spent = omega (arith, bud) })
-    (round m f n (n + 12 * W0 f + C) (omega (arith, bud, tb)) (omega arith) a)
+      (round m f n (n + 12 * W0 f + C) (omega (arith, bud, tb)) (omega arith) a)
 
   -- THE LOOK OVER ALL LOGS
   next-is : (pl : ℕ) → pl + 1 < logs → next o p logs P V one all i c al lt es s pl ≡ pl + 1
@@ -335,11 +335,11 @@ module _ (o : Ops) (p : Plan) (logs : ℕ) (P : Plain o p logs) (V : Live o p lo
     where
       up : ltb l pl ≡ true → Ahead logs pl l
       up t = let q = ltb-true l pl t in let d = diff (pl + 1) logs (omega (arith, pp)) in let de = d .1 in let r = diff (suc (d .0 + suc l)) logs (omega (arith, q, de)) in let re = r .1 in
-        subst (λ a. Ahead a pl l) {x = suc (d .0 + suc (l + r .0))} (omega (arith, re)) (ahead-wrap (d .0) pl (r .0) l (omega (arith, de)) ll)
+          subst (λ a. Ahead a pl l) {x = suc (d .0 + suc (l + r .0))} (omega (arith, re)) (ahead-wrap (d .0) pl (r .0) l (omega (arith, de)) ll)
 
       wrap : ltb l pl ≡ false → Ahead logs pl l
       wrap t = let q = ltb-false l pl t in let d = diff pl l (omega (arith, q)) in let de = d .1 in let r = diff (suc (d .0)) logs (omega (arith, de, ll)) in let re = r .1 in
-        subst (λ a. Ahead a pl l) {x = suc (d .0 + r .0)} (omega (arith, re)) (ahead-up (d .0) pl (r .0) l de ll)
+          subst (λ a. Ahead a pl l) {x = suc (d .0 + r .0)} (omega (arith, re)) (ahead-up (d .0) pl (r .0) l de ll)
 
   place-in : (pl : ℕ) → cond (ltb pl logs) pl 0 < logs
   place-in pl = cond-both (ltb pl logs) pl 0 (λ z. z < logs) (λ t. ltb-true pl logs t) (λ t. omega (arith, one))
@@ -362,9 +362,9 @@ module _ (o : Ops) (p : Plan) (logs : ℕ) (P : Plain o p logs) (V : Live o p lo
 
   full : (m : Mind) (f : ℕ → Box) (n tot : ℕ) → tot < P .bound → (m .keep .batch ≡ none) × (m .keep .waiting ≡ []) → n + 12 * W0 f + 12 * logs + 12 ≤ tot → B (readLedger o logs (looksAll m)) f n → Final tot
   full m f n tot tb e bud a =
-    let d = ledger-done o p logs P V one all i c al lt es s tot tb (suc (logs + W0 f)) (looksAll m) f n (place-in (m .place)) a (omega arith) (omega (arith, bud)) in
-    let e2 : (d .m .keep .batch ≡ none) × (d .m .keep .waiting ≡ []) = (ap (λ z. z .batch) (d .keep) ∙ e .0, ap (λ z. z .waiting) (d .keep) ∙ e .1) in
-    record { m = d .m; f = d .f; n = d .n; at' = to-rest (d .m) (d .f) (d .n) e2 (d .at'); empty = e2; idle' = d .idle'; took = λ l ll. d .took l ll (inl (ahead-all (cond (ltb (m .place) logs) (m .place) 0) l (place-in (m .place)) ll)); spent = d .spent }
+      let d = ledger-done o p logs P V one all i c al lt es s tot tb (suc (logs + W0 f)) (looksAll m) f n (place-in (m .place)) a (omega arith) (omega (arith, bud)) in
+      let e2 : (d .m .keep .batch ≡ none) × (d .m .keep .waiting ≡ []) = (ap (λ z. z .batch) (d .keep) ∙ e .0, ap (λ z. z .waiting) (d .keep) ∙ e .1) in
+      record { m = d .m; f = d .f; n = d .n; at' = to-rest (d .m) (d .f) (d .n) e2 (d .at'); empty = e2; idle' = d .idle'; took = λ l ll. d .took l ll (inl (ahead-all (cond (ltb (m .place) logs) (m .place) 0) l (place-in (m .place)) ll)); spent = d .spent }
 
   -- from rest, once more
   final : (m : Mind) (f : ℕ → Box) (n tot : ℕ) → tot < P .bound → (m .keep .batch ≡ none) × (m .keep .waiting ≡ []) → n + 12 * W0 f + 12 * logs + 13 ≤ tot → B (idle o logs m) f n → Final tot
