@@ -80,7 +80,7 @@ negates-says at l g b (Ok p) e h k c j =
       is = e ∙ negate-ok l (drop at b) (drop (l .end) b) c (j .few) ∙ ap (λ x. got x (drop (l .end) b)) (sym (j .is)) ∙ ap (λ n. got (exprOf (p .expr)) (drop n b)) (sym (j .ends));
       inside = omega (arith, j .ends);
       counted = j .counts ∙ ap (λ n. 1 + n) c ∙ ap parts (sym (j .is));
-      few = omega (arith, j .counts, j .few);
+      few = omega (arith, j .counts, j .few)
     }
 negates-says at l g b (Err f) e h k c j = negates-refused at l g b f h (λ m. e ∙ negate-bad l (drop at b) (drop (l .end) b) c m) j
 
@@ -90,8 +90,8 @@ module _ (l : Level) (inner : Reader spec.Expr) (bs b : List ℕ) (left right : 
   going-on =
       let left-over : going .turns ≢ 0 = omega (arith, going .enough, going .few) in
       going .is
-      ∙ more-turn l (operand l inner) (going .turns) (exprOf (left .expr)) (drop (left .end) b) (drop place b) skipped o left-over found
-      ∙ ap (λ n. after (operand l inner n) (λ y rest. after (join o (drop place b) (exprOf (left .expr)) y rest) (λ c end. more l (operand l inner) (going .turns - 1) c end))) (drop-drop 1 place b)
+        ∙ more-turn l (operand l inner) (going .turns) (exprOf (left .expr)) (drop (left .end) b) (drop place b) skipped o left-over found
+        ∙ ap (λ n. after (operand l inner n) (λ y rest. after (join o (drop place b) (exprOf (left .expr)) y rest) (λ c end. more l (operand l inner) (going .turns - 1) c end))) (drop-drop 1 place b)
 
   pub turn-bad : {why : Why} {rest : List ℕ} → operand l inner (drop (place + 1) b) ≡ bad why rest → chained l inner bs ≡ bad why rest
   turn-bad e = going-on ∙ after-bad _ _ e
@@ -108,7 +108,7 @@ module _ (l : Level) (inner : Reader spec.Expr) (bs b : List ℕ) (left right : 
           is = going-on ∙ after-got _ _ (read .is) ∙ after-got _ _ (joins-ok o place left right p (drop place b) (drop (right .end) b) (going .counted) (read .counted) j) ∙ ap (λ n. more l (operand l inner) (going .turns - 1) (exprOf (p .expr)) (drop n b)) (sym (j .ends));
           inside = omega (arith, j .ends, read .inside);
           counted = joins-counted o place left right p (going .counted) (read .counted) j;
-          few = omega (arith, j .counts, j .few);
+          few = omega (arith, j .counts, j .few)
         }
 
 -- a comparison, likewise

@@ -92,11 +92,11 @@ module _ (l : Level) (inner : Reader Expr) where
         turns = first .turns - 1;
         enough = omega (arith, first .enough, many);
         is =
-            ap (chained l inner) (append-assoc ta (32 ∷ sign ∷ 32 ∷ tb) rest)
+          ap (chained l inner) (append-assoc ta (32 ∷ sign ∷ 32 ∷ tb) rest)
             ∙ first .is
             ∙ more-turn l (operand l inner) (first .turns) a behind (sign ∷ 32 ∷ (tb ++ rest)) skipped o some (found (32 ∷ (tb ++ rest)))
             ∙ after-got _ _ (operand-blank l inner (tb ++ rest) ∙ right rest ends stops)
-            ∙ after-got _ _ (rw fits);
+            ∙ after-got _ _ (rw fits)
       }
 
   chain-whole : (t : List ℕ) (e : Expr) (rest : List ℕ) → parts e ≤ 64 → ChainReads l inner t e → Ends rest → Stops l rest → operator l (skip rest) ≡ None → chained l inner (t ++ rest) ≡ got e rest
@@ -139,8 +139,8 @@ bracketed-reads : (d : ℕ) (t : List ℕ) (e : Expr) → d ≢ 0 → ((rest : L
 unfolding skip is closed isLetter isDigit operator comparison
 bracketed-reads d t e some h n rest m ends =
     factor-bracket (bracket d) n (40 ∷ ((t ++ (41 ∷ [])) ++ rest)) (40 ∷ ((t ++ (41 ∷ [])) ++ rest)) _ refl refl refl refl
-    ∙ bracket-in d (40 ∷ ((t ++ (41 ∷ [])) ++ rest)) (t ++ (41 ∷ rest)) (append-assoc t (41 ∷ []) rest) some
-    ∙ after-got _ closed (h (41 ∷ rest) (record { ends = record { letter = refl; digit = refl }; sum = refl; product = refl; compared = refl }))
+      ∙ bracket-in d (40 ∷ ((t ++ (41 ∷ [])) ++ rest)) (t ++ (41 ∷ rest)) (append-assoc t (41 ∷ []) rest) some
+      ∙ after-got _ closed (h (41 ∷ rest) (record { ends = record { letter = refl; digit = refl }; sum = refl; product = refl; compared = refl }))
 
 -- ---- numbers
 digit-true : (c : ℕ) → 48 ≤ c → c ≤ 57 → asciiDigit c ≡ true
@@ -182,7 +182,8 @@ pub digits-read : (n : ℕ) (rest : List ℕ) → n < top → Ends rest → (ski
 unfolding skip isDigit
 digits-read n rest h ends =
     let b = decimal-headed n h in
-    let front : decimal n ++ rest ≡ b .first ∷ (b .others ++ rest) = ap (λ l. l ++ rest) (b .is) in (
+    let front : decimal n ++ rest ≡ b .first ∷ (b .others ++ rest) = ap (λ l. l ++ rest) (b .is) in
+    (
       rw (front, solid-digit (b .first) (b .low) (b .high)),
       rw (front) (digit-true (b .first) (b .low) (b .high)),
       decimal-read n h h (decimal n ++ rest) rest ∙ digits-done (decimal n ++ rest) n rest (ends .digit) (ends .letter),
@@ -202,9 +203,9 @@ number-reads inner n h m rest few ends =
     let not-open : is 40 (decimal n ++ rest) ≡ false = ap (is 40) front ∙ other-is 40 (b .first) (b .others ++ rest) (omega arith) (b .low) in
     go m (read .0) (read .1) (read .2) not-not not-open
   where
-    go : (k : ℕ) → skip (decimal n ++ rest) ≡ decimal n ++ rest → isDigit (decimal n ++ rest) ≡ true → digits (decimal n ++ rest) 0 (decimal n ++ rest) ≡ got n rest → is 33 (decimal n ++ rest) ≡ false → is 40 (decimal n ++ rest) ≡ false → factor inner k (decimal n ++ rest) ≡ got (Num n) rest
-    go zero s d r x y = rw (s, x, y, d, r)
-    go (suc k) s d r x y = rw (s, x, y, d, r)
+  go : (k : ℕ) → skip (decimal n ++ rest) ≡ decimal n ++ rest → isDigit (decimal n ++ rest) ≡ true → digits (decimal n ++ rest) 0 (decimal n ++ rest) ≡ got n rest → is 33 (decimal n ++ rest) ≡ false → is 40 (decimal n ++ rest) ≡ false → factor inner k (decimal n ++ rest) ≡ got (Num n) rest
+  go zero s d r x y = rw (s, x, y, d, r)
+  go (suc k) s d r x y = rw (s, x, y, d, r)
 
 -- ---- an expression at each level at which it may stand without brackets
 record Back (d : ℕ) (e : Expr) : Type 0 where
@@ -299,10 +300,10 @@ module _ (d : ℕ) (a b : Expr) (some : d ≢ 0) (l : Side d a) (r : Side d b) w
       let fits : leb (1 + (parts a + parts b)) 64 ≡ true = le-leb _ _ (omega (arith, joined-parts o a b)) in
       let whole : join o (sign ∷ 32 ∷ (tb ++ rest)) a b rest ≡ got (joined o a b) rest = rw fits in
       ap (expression d) (append-assoc ta (32 ∷ sign ∷ 32 ∷ tb) rest)
-      ∙ expression-two d (ta ++ behind) (sign ∷ 32 ∷ (tb ++ rest)) (32 ∷ (tb ++ rest)) left skipped refl (found _)
-      ∙ after-got _ _ (chained-blank level.Sum (bracket d) (tb ++ rest) ∙ right)
-      ∙ after-got (join o (sign ∷ 32 ∷ (tb ++ rest)) a b rest) single whole
-      ∙ rw (c .compared)
+        ∙ expression-two d (ta ++ behind) (sign ∷ 32 ∷ (tb ++ rest)) (32 ∷ (tb ++ rest)) left skipped refl (found _)
+        ∙ after-got _ _ (chained-blank level.Sum (bracket d) (tb ++ rest) ∙ right)
+        ∙ after-got (join o (sign ∷ 32 ∷ (tb ++ rest)) a b rest) single whole
+        ∙ rw (c .compared)
 
 -- ---- WHAT IS PRINTED OF AN EXPRESSION IS READ AS IT, where its parts are few and its numbers fit
 back : (e : Expr) (d : ℕ) → parts e ≤ d → parts e ≤ 64 → exprOk e ≡ true → Back d e

@@ -28,18 +28,18 @@ pub parts-some : (e : spec.Expr) → 0 < parts e
 unfolding parts
 parts-some e =
     elim e as (λ e. 0 < parts e) [
-      | spec.Num n ↦ omega arith
-      | spec.Time ↦ omega arith
-      | spec.Key ↦ omega arith
-      | spec.Value ↦ omega arith
-      | spec.Plus a b ↦ omega arith
-      | spec.Minus a b ↦ omega arith
-      | spec.Times a b ↦ omega arith
-      | spec.Quotient a b ↦ omega arith
-      | spec.Rest a b ↦ omega arith
-      | spec.Less a b ↦ omega arith
-      | spec.Same a b ↦ omega arith
-      | spec.Not a ↦ omega arith
+      spec.Num n ↦ omega arith
+    | spec.Time ↦ omega arith
+    | spec.Key ↦ omega arith
+    | spec.Value ↦ omega arith
+    | spec.Plus a b ↦ omega arith
+    | spec.Minus a b ↦ omega arith
+    | spec.Times a b ↦ omega arith
+    | spec.Quotient a b ↦ omega arith
+    | spec.Rest a b ↦ omega arith
+    | spec.Less a b ↦ omega arith
+    | spec.Same a b ↦ omega arith
+    | spec.Not a ↦ omega arith
     ]
 
 -- the parts of what was joined
@@ -53,17 +53,17 @@ module _ (l : Level) (sub : Reader spec.Expr) (turns : ℕ) (a : spec.Expr) (bs 
   unfolding more
   more-none h o = go turns h
     where
-      go : (t : ℕ) → t ≢ 0 → more l sub t a bs ≡ got a bs
-      go zero h = absurd (h refl)
-      go (suc t) h = rw (← e, o)
+    go : (t : ℕ) → t ≢ 0 → more l sub t a bs ≡ got a bs
+    go zero h = absurd (h refl)
+    go (suc t) h = rw (← e, o)
 
   pub more-turn : (o : Operator) → turns ≢ 0 → operator l s ≡ Some o → more l sub turns a bs ≡ after (sub (next s)) (λ b rest. after (join o s a b rest) (λ c end. more l sub (turns - 1) c end))
   unfolding more
   more-turn o h is = go turns h
     where
-      go : (t : ℕ) → t ≢ 0 → more l sub t a bs ≡ after (sub (next s)) (λ b rest. after (join o s a b rest) (λ c end. more l sub (t - 1) c end))
-      go zero h = absurd (h refl)
-      go (suc t) h = let n : suc t - 1 ≡ t = omega arith in rw (← e, is, n)
+    go : (t : ℕ) → t ≢ 0 → more l sub t a bs ≡ after (sub (next s)) (λ b rest. after (join o s a b rest) (λ c end. more l sub (t - 1) c end))
+    go zero h = absurd (h refl)
+    go (suc t) h = let n : suc t - 1 ≡ t = omega arith in rw (← e, is, n)
 
 -- ---- a chain, once its first operand was read
 pub chained-bad : (l : Level) (inner : Reader spec.Expr) (bs : List ℕ) {why : Why} {rest : List ℕ} → operand l inner bs ≡ bad why rest → chained l inner bs ≡ bad why rest
@@ -93,25 +93,25 @@ module _ (inner : Reader spec.Expr) (nots : ℕ) (bs s n : List ℕ) (e : s ≡ 
   unfolding factor
   factor-not z h = go nots z
     where
-      go : (t : ℕ) → t ≢ 0 → factor inner t bs ≡ after (factor inner (t - 1) n) (λ a rest. negate s a rest)
-      go zero z = absurd (z refl)
-      go (suc t) z = let less : suc t - 1 ≡ t = omega arith in rw (← e, h, less, f)
+    go : (t : ℕ) → t ≢ 0 → factor inner t bs ≡ after (factor inner (t - 1) n) (λ a rest. negate s a rest)
+    go zero z = absurd (z refl)
+    go (suc t) z = let less : suc t - 1 ≡ t = omega arith in rw (← e, h, less, f)
 
   pub factor-bracket : is 33 s ≡ false → is 40 s ≡ true → factor inner nots bs ≡ inner s
   unfolding factor
   factor-bracket h k = go nots
     where
-      go : (t : ℕ) → factor inner t bs ≡ inner s
-      go zero = rw (← e, h, k)
-      go (suc t) = rw (← e, h, k)
+    go : (t : ℕ) → factor inner t bs ≡ inner s
+    go zero = rw (← e, h, k)
+    go (suc t) = rw (← e, h, k)
 
   pub factor-leaf : is 33 s ≡ false → is 40 s ≡ false → factor inner nots bs ≡ leaf s
   unfolding factor
   factor-leaf h k = go nots
     where
-      go : (t : ℕ) → factor inner t bs ≡ leaf s
-      go zero = rw (← e, h, k)
-      go (suc t) = rw (← e, h, k)
+    go : (t : ℕ) → factor inner t bs ≡ leaf s
+    go zero = rw (← e, h, k)
+    go (suc t) = rw (← e, h, k)
 
 -- ---- brackets
 pub bracket-deep : (deep : ℕ) (s : List ℕ) → deep ≡ 0 → bracket deep s ≡ bad Deep s
@@ -159,3 +159,4 @@ module _ (deep : ℕ) (bs : List ℕ) where
     pub expression-two : {o : Operator} → next s ≡ n → comparison s ≡ Some o → expression deep bs ≡ after (chained level.Sum (bracket deep) n) (λ b end. after (join o s a b end) single)
     unfolding compared after
     expression-two f h = expression-is deep bs ∙ rw (l, ← e, h, f)
+

@@ -155,14 +155,7 @@ fn shown(e: &Expr, out: &mut Vec<u8>) -> Result<(), AllocError>
 }
 
 // Two sides, each with the bond that it needs there, and a sign between them.
-fn pair(
-    left: u8,
-    a: &Expr,
-    sign: u8,
-    right: u8,
-    b: &Expr,
-    out: &mut Vec<u8>,
-) -> Result<(), AllocError>
+fn pair(left: u8, a: &Expr, sign: u8, right: u8, b: &Expr, out: &mut Vec<u8>) -> Result<(), AllocError>
     ensures { λ r. ⌜ Wrote (vec-items (now (out .entry))) (vec-items (now (out .exit))) (pairOf sign (withinOf left (bondOf (exprOf (now (a .entry)))) (shownOf (exprOf (now (a .entry))))) (withinOf right (bondOf (exprOf (now (b .entry)))) (shownOf (exprOf (now (b .entry)))))) r ⌝ }
 {
     within(left, a, out)?;

@@ -95,11 +95,10 @@ past-ended m n (c ∷ cs) h =
 
 -- whatever other events come to the same windows that have ended: what comes of the stage later goes on from there
 pub stage-stands : (m n : ℕ) (st : Stage) (es fs : List Event) → m ≤ n → ended m (cells st fs) ≡ ended m (cells st es) → (more : List Event) × (through st n fs ≡ through st m es ++ more) × Since m more
-stage-stands m n st es fs h q = (
-  eventsOf (ended n (openOf m (cells st fs))),
-  rw (ended-split m n (cells st fs) h (sorted st fs), q) (events-both (ended m (cells st es)) (ended n (openOf m (cells st fs)))),
-  past-since m (ended n (openOf m (cells st fs))) (past-ended m n (openOf m (cells st fs)) (open-past m (cells st fs))),
-)
+stage-stands m n st es fs h q =
+    (eventsOf (ended n (openOf m (cells st fs))),
+     rw (ended-split m n (cells st fs) h (sorted st fs), q) (events-both (ended m (cells st es)) (ended n (openOf m (cells st fs)))),
+     past-since m (ended n (openOf m (cells st fs))) (past-ended m n (openOf m (cells st fs)) (open-past m (cells st fs))))
 
 -- all stages
 pub record FlowIs (sts : List Stage) (m n : ℕ) (es more : List Event) : Type 0 where

@@ -8,5 +8,6 @@ pub mod Tending
 pub mod Ends
 pub mod Keeping
 pub mod Comesout
+pub mod Together
 pub mod Smallbytes
 pub mod Smalllaws

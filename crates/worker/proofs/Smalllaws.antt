@@ -8,18 +8,18 @@ use native.Mathlib.Omega.{arith}
 use lib.Dec.{eqb, ltb, leb, T}
 use lib.ListN.{length}
 use Rattle.std.proofs.shelf.Tests.{eqb-true, eq-eqb, le-leb, lt-ltb, and-from, or-parts, or-from, not-from-true, cases-bool, both-ways}
-use Rattle.streams.specs.Meaning.{Event, Entry, Plan, out}
-use Rattle.streams.specs.Calls.{firstOf, dropOf}
+use Rattle.streams.specs.Meaning.{Event, Entry, Plan, Stage, Num, Key, Value, Count, word, mark, allInTime, cells, ended, eventsOf, throughAll, out}
+use Rattle.streams.specs.Calls.{firstOf, dropOf, parts, exprOk, every}
 use Rattle.streams.specs.Hands.{Box, at, allBytes}
 use Rattle.interface.specs.Ops.{lacks, gives, Due, nothing, alone, withPage, page, reply, Page, Ops, logBox, IsPage, Tag}
 use Rattle.interface.specs.Plain.{Plain, Now, Kept}
 use Rattle.interface.specs.Live.{Live, AnswersAll}
-use Rattle.worker.specs.Theorems.{WorkerEnds}
-use Rattle.worker.specs.Small.{smallHas, smallAdds, smallDue, smallAfter, smallPages, smallTake, smallDiffers, small, SmallEnds, SmallOut, Silent}
+use Rattle.worker.specs.Theorems.{KeepsInterface}
+use Rattle.worker.specs.Small.{smallHas, smallAdds, smallDue, smallAfter, smallPages, smallTake, smallDiffers, small, smalls, Silent, SmallWhole}
 use Rattle.shelf.proofs.Places.{at-self, at-one}
 use Rattle.worker.proofs.Invariant.{log-some}
 use Rattle.worker.proofs.Smallbytes.{length-adds, bytes-adds, small-none, small-new, small-mine, small-other}
-use Rattle.worker.proofs.Comesout.{worker-ends, worker-out}
+use Rattle.worker.proofs.Together.{worker-whole}
 
 abbrev Fits : List ℕ → Type 0
 Fits x = T (leb (length x) 1048576 && allBytes x)
@@ -155,7 +155,7 @@ gives-are x y e = cc
 replies : (x y : List Event) → reply x ≡ reply y → x ≡ y
 replies x y e = cc
 
-small-plain : (p : Plan) (logs : ℕ) → logs ≤ 256 → Plain small p logs
+pub small-plain : (p : Plan) (logs : ℕ) → logs ≤ 256 → Plain small p logs
 unfolding firstOf allBytes
 small-plain p logs lg = record {
   bound = 72057594037927936 + 24 * logs + 1000;
@@ -256,7 +256,7 @@ take-less [] [] t = absurd (both-ways (smallDiffers [] []) (differs-self []) t)
 take-less [] (a ∷ x) t = omega arith
 take-less (z ∷ y) x t = absurd (both-ways (smallDiffers (z ∷ y) (z ∷ y)) (differs-self (z ∷ y)) t)
 
-small-live : (p : Plan) (logs : ℕ) (lg : logs ≤ 256) → Live small p logs (small-plain p logs lg)
+pub small-live : (p : Plan) (logs : ℕ) (lg : logs ≤ 256) → Live small p logs (small-plain p logs lg)
 unfolding small-plain
 small-live p logs lg = record {
   work = λ l f. smallWork l;
@@ -292,12 +292,24 @@ unfolding firstOf
 first-none zero = refl
 first-none (suc k) = refl
 
-pub small-ends : SmallEnds
-small-ends p logs one lg = worker-ends small p logs (small-plain p logs lg) (small-live p logs lg) one
+-- nothing comes out of a plan that keeps nothing
+abbrev deaf : Stage
+deaf = record { keep' = Num 0; key = Key; value = Value; size = 1; sum = Count }
 
-pub small-out : SmallOut
-small-out = worker-out (λ p logs. small) Silent (λ p quiet ok logs one lg. (
-  small-plain p logs lg,
-  small-live p logs lg,
-  λ n ls f sm h d t from most got es ms ga e. sym (replies [] es e) ∙ (sym (first-none most) ∙ ap (firstOf most) (sym (drop-none from) ∙ ap (dropOf from) (sym (quiet ls)))),
-))
+no-cells : (es : List Event) → cells deaf es ≡ []
+unfolding cells word
+no-cells [] = refl
+no-cells (e ∷ es) = no-cells es
+
+silent : (ls : List (List Entry)) → out (record { late = 0; stages = deaf ∷ [] }) ls ≡ []
+unfolding throughAll ended eventsOf
+silent ls = ap (λ z. eventsOf (ended (mark 0 ls) z)) (no-cells (allInTime 0 ls))
+
+-- the small book keeps the interface
+pub small-keeps : KeepsInterface Silent smalls
+small-keeps p quiet ok logs one lg = (small-plain p logs lg, small-live p logs lg,
+  λ n ls f sm h d t from most got es ms ga e. sym (replies [] es e) ∙ (sym (first-none most) ∙ ap (firstOf most) (sym (drop-none from) ∙ ap (dropOf from) (sym (quiet ls)))))
+
+pub small-whole : SmallWhole
+unfolding exprOk parts every
+small-whole = (worker-whole smalls Silent small-keeps, (record { late = 0; stages = deaf ∷ [] }, tt, silent))

@@ -1,16 +1,17 @@
--- A book that keeps who was served, in bytes, and writes one page and a copy of it: enough for Plain and Live to be kept together.
+-- A small book that keeps who was served, in bytes, and writes one page and a copy of it: enough to keep Plain and Live together, which shows
+-- that the interface asks for nothing that cannot be had. It keeps no events, so it answers none.
 -- Assumes nothing.
 use mathlib.Core.Path.{_≡_}
 use mathlib.Core.Bool.{Bool, true, false, cond, _&&_, _||_, not}
 use mathlib.Core.List.{List, [], _∷_}
 use Prim.Native.Nat.{ℕ, zero, suc, _+_, _*_, _%_, _/_, _≤_}
-use lib.Dec.{eqb, ltb}
+use lib.Dec.{eqb, ltb, T}
 use Rattle.streams.specs.Meaning.{Entry, Plan, out}
-use Rattle.streams.specs.Calls.{core}
-use Rattle.streams.specs.Hands.{OneIsEnough}
-use Rattle.streams.specs.Promise.{ComesOut, Plans}
+use Rattle.streams.specs.Calls.{core, planOk}
+use Rattle.streams.specs.Hands.{OneBook, BusyAtNine, OneIsEnough}
+use Rattle.streams.specs.Promise.{streams, Plans, Whole}
 use Rattle.interface.specs.Ops.{Gives, gives, Due, nothing, alone, withPage, reply, Page, Ops}
-use Rattle.worker.specs.Worker.{worker}
+use Rattle.worker.specs.Worker.{workers}
 
 unfoldable pub get : ℕ → List ℕ → ℕ
 get k [] = 0
@@ -84,12 +85,22 @@ small = record {
   more = λ f n l got x. got;
 }
 
-abbrev pub SmallEnds : Type 0
-SmallEnds = (p : Plan) (logs : ℕ) → 1 ≤ logs → logs ≤ 256 → OneIsEnough (worker small logs)
+abbrev pub smalls : Plan → (logs : ℕ) → Ops
+smalls p logs = small
 
--- plans of which nothing comes out: the small book has nothing to answer
+-- what the worker promises with this book: all but that all comes out, for all plans
+abbrev pub SmallOneBook : Type 0
+SmallOneBook = (p : Plan) (logs : ℕ) → logs ≤ 256 → OneBook (streams p logs core) (workers smalls p logs)
+
+abbrev pub SmallBusyAtNine : Type 0
+SmallBusyAtNine = (p : Plan) (logs : ℕ) → logs ≤ 256 → BusyAtNine (streams p logs core) (workers smalls p logs)
+
+abbrev pub SmallOneIsEnough : Type 0
+SmallOneIsEnough = (p : Plan) (logs : ℕ) → 1 ≤ logs → logs ≤ 256 → OneIsEnough (workers smalls p logs)
+
+-- Plans of which nothing comes out: the small book, which keeps no events, has nothing to answer. There are such plans.
 abbrev pub Silent : Plans
 Silent p = (ls : List (List Entry)) → out p ls ≡ []
 
-abbrev pub SmallOut : Type 0
-SmallOut = ComesOut Silent core (λ p logs. worker small logs)
+abbrev pub SmallWhole : Type 0
+SmallWhole = Whole Silent core (workers smalls) × ((p : Plan) × T (planOk p) × Silent p)

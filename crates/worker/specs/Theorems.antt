@@ -11,7 +11,7 @@ use Rattle.streams.specs.Promise.{streams, Plans, ComesOut, Whole}
 use Rattle.interface.specs.Ops.{Ops}
 use Rattle.interface.specs.Plain.{Plain}
 use Rattle.interface.specs.Live.{Live, AnswersAll}
-use Rattle.worker.specs.Worker.{worker}
+use Rattle.worker.specs.Worker.{worker, workers}
 
 -- customers see one book-keeper, and only a ninth call is handed back
 abbrev pub WorkerKeeps : Type 1
@@ -22,13 +22,13 @@ abbrev pub WorkerEnds : Type 1
 WorkerEnds = (o : Ops) (p : Plan) (logs : ℕ) (P : Plain o p logs) → Live o p logs P → 1 ≤ logs → OneIsEnough (worker o logs)
 
 -- a book for each plan and number of logs, that keeps the interface
-abbrev pub Keeps : Plans → (Plan → (logs : ℕ) → Ops) → Type 1
-Keeps plans o = (p : Plan) → plans p → T (planOk p) → (logs : ℕ) → 1 ≤ logs → logs ≤ 256 → (P : Plain (o p logs) p logs) × (V : Live (o p logs) p logs P) × AnswersAll (o p logs) p logs P V
+abbrev pub KeepsInterface : Plans → (Plan → (logs : ℕ) → Ops) → Type 1
+KeepsInterface plans o = (p : Plan) → plans p → T (planOk p) → (logs : ℕ) → 1 ≤ logs → logs ≤ 256 → (P : Plain (o p logs) p logs) × (V : Live (o p logs) p logs P) × AnswersAll (o p logs) p logs P V
 
 -- all comes out
 abbrev pub WorkerOut : Type 1
-WorkerOut = (o : Plan → (logs : ℕ) → Ops) (plans : Plans) → Keeps plans o → ComesOut plans core (λ p logs. worker (o p logs) logs)
+WorkerOut = (o : Plan → (logs : ℕ) → Ops) (plans : Plans) → KeepsInterface plans o → ComesOut plans core (workers o)
 
 -- all of it: with a book for all plans this is the main promise of this worker
 abbrev pub WorkerWhole : Type 1
-WorkerWhole = (o : Plan → (logs : ℕ) → Ops) (plans : Plans) → Keeps plans o → Whole plans core (λ p logs. worker (o p logs) logs)
+WorkerWhole = (o : Plan → (logs : ℕ) → Ops) (plans : Plans) → KeepsInterface plans o → Whole plans core (workers o)

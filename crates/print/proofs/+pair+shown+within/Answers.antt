@@ -26,7 +26,7 @@ within-returns t c =
     let less : within (c .args .least) (bond e) (shown e) ≡ 40 ∷ (shown e ++ (41 ∷ [])) = rw (lt-ltb (bond e) (c .args .least) (omega (arith, c .if-bond-least .left, c .bond .ensures))) in
     wrote-as (c .word-2 .result) _ _ (40 ∷ (shown e ++ (41 ∷ []))) (within (c .args .least) (bond e) (shown e)) (sym less)
     (wrote-after (c .word-2 .result) _ (vec-items (c .word .last .out)) _ (40 ∷ []) (shown e ++ (41 ∷ [])) (c .in-Continue-word .ensures tt)
-    (wrote-after (c .word-2 .result) _ (vec-items (c .shown-2 .last .out)) _ (shown e) (41 ∷ []) (c .in-Continue-shown .ensures tt) (c .word-2 .ensures)))
+      (wrote-after (c .word-2 .result) _ (vec-items (c .shown-2 .last .out)) _ (shown e) (41 ∷ []) (c .in-Continue-shown .ensures tt) (c .word-2 .ensures)))
 
 pub shown-returns-in-Num : need.shown-returns-in-Num
 unfolding shown

@@ -13,5 +13,5 @@ returns c =
     let all : said name (c .args .left-out) e ≡ name ++ (32 ∷ (shown e ++ (32 ∷ []))) = rw (c .if-left-out .left) in
     wrote-as (c .word-3 .result) _ _ (name ++ (32 ∷ (shown e ++ (32 ∷ [])))) (said name (c .args .left-out) e) (sym all)
     (wrote-after (c .word-3 .result) _ (vec-items (c .word .last .out)) _ name (32 ∷ (shown e ++ (32 ∷ []))) (c .in-Continue-word .ensures tt)
-    (wrote-after (c .word-3 .result) _ (vec-items (c .word-2 .last .out)) _ (32 ∷ []) (shown e ++ (32 ∷ [])) (c .in-Continue-word-2 .ensures tt)
-    (wrote-after (c .word-3 .result) _ (vec-items (c .shown .last .out)) _ (shown e) (32 ∷ []) (c .in-Continue-shown .ensures tt) (c .word-3 .ensures))))
+      (wrote-after (c .word-3 .result) _ (vec-items (c .word-2 .last .out)) _ (32 ∷ []) (shown e ++ (32 ∷ [])) (c .in-Continue-word-2 .ensures tt)
+        (wrote-after (c .word-3 .result) _ (vec-items (c .shown .last .out)) _ (shown e) (32 ∷ []) (c .in-Continue-shown .ensures tt) (c .word-3 .ensures))))

@@ -25,7 +25,7 @@ returns c =
     let keyed = said (codes "key") (isKey key) key ++ valued in
     wrote-after r _ (vec-items (c .said .last .out)) end (said (codes "keep") (isOne keep) keep) keyed (c .in-Continue-said .ensures tt ∙ ap (λ b. vec-items (c .args .out .now) ++ said (codes "keep") b keep) (c .is-one .ensures))
     (wrote-after r _ (vec-items (c .said-2 .last .out)) end (said (codes "key") (isKey key) key) valued (c .in-Continue-said-2 .ensures tt ∙ ap (λ b. vec-items (c .said .last .out) ++ said (codes "key") b key) (c .is-key .ensures))
-    (wrote-after r _ (vec-items (c .said-3 .last .out)) end (said (codes "value") (isValue value) value) sized (c .in-Continue-said-3 .ensures tt ∙ ap (λ b. vec-items (c .said-2 .last .out) ++ said (codes "value") b value) (c .is-value .ensures))
-    (wrote-after r _ (vec-items (c .word .last .out)) end (codes "in ") (size ++ last) (c .in-Continue-word .ensures tt)
-    (wrote-after r _ (vec-items (c .digits .last .out)) end size last (c .in-Continue-digits .ensures tt)
-    (wrote-after r _ (vec-items (c .word-2 .last .out)) end (32 ∷ []) name (c .in-Continue-word-2 .ensures tt) (wrote-as r _ end (c .named .result .now) name (c .named .ensures) (c .word-3 .ensures)))))))
+      (wrote-after r _ (vec-items (c .said-3 .last .out)) end (said (codes "value") (isValue value) value) sized (c .in-Continue-said-3 .ensures tt ∙ ap (λ b. vec-items (c .said-2 .last .out) ++ said (codes "value") b value) (c .is-value .ensures))
+        (wrote-after r _ (vec-items (c .word .last .out)) end (codes "in ") (size ++ last) (c .in-Continue-word .ensures tt)
+          (wrote-after r _ (vec-items (c .digits .last .out)) end size last (c .in-Continue-digits .ensures tt)
+            (wrote-after r _ (vec-items (c .word-2 .last .out)) end (32 ∷ []) name (c .in-Continue-word-2 .ensures tt) (wrote-as r _ end (c .named .result .now) name (c .named .ensures) (c .word-3 .ensures)))))))
