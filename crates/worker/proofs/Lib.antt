@@ -11,3 +11,4 @@ pub mod Comesout
 pub mod Together
 pub mod Smallbytes
 pub mod Smalllaws
+pub mod Table

@@ -307,8 +307,11 @@ silent ls = ap (λ z. eventsOf (ended (mark 0 ls) z)) (no-cells (allInTime 0 ls)
 
 -- the small book keeps the interface
 pub small-keeps : KeepsInterface Silent smalls
-small-keeps p quiet ok logs one lg = (small-plain p logs lg, small-live p logs lg,
-  λ n ls f sm h d t from most got es ms ga e. sym (replies [] es e) ∙ (sym (first-none most) ∙ ap (firstOf most) (sym (drop-none from) ∙ ap (dropOf from) (sym (quiet ls)))))
+small-keeps p quiet ok logs one lg = (
+  small-plain p logs lg,
+  small-live p logs lg,
+  λ n ls f sm h d t from most got es ms ga e. sym (replies [] es e) ∙ (sym (first-none most) ∙ ap (firstOf most) (sym (drop-none from) ∙ ap (dropOf from) (sym (quiet ls)))),
+)
 
 pub small-whole : SmallWhole
 unfolding exprOk parts every

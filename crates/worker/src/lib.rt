@@ -2,6 +2,7 @@
 // nothing: a theorem that had no proof would be refused here. The theorems hold over any book that keeps the interface
 // (proofs/Together); statements about all books are of Type 1, so that contracts cite them at a book: here a small one.
 ghost use Rattle.worker.specs.Small.{SmallBusyAtNine, SmallOneBook, SmallOneIsEnough, SmallWhole};
+ghost use Rattle.worker.specs.Table.{TurnsTable};
 
 // Whatever is lost, late, doubled or out of order, what customers see is what one book-keeper would tell.
 pub fn one_book() -> u8
@@ -27,6 +28,13 @@ pub fn one_is_enough() -> u8
 // All of it, and that all comes out.
 pub fn whole() -> u8
     ensures { λ _. ⌜ SmallWhole ⌝ }
+{
+    0
+}
+
+// The worker's turns are those of a table that was worked out apart from it.
+pub fn turns_run() -> u8
+    ensures { λ _. ⌜ TurnsTable ⌝ }
 {
     0
 }
