@@ -1,4 +1,6 @@
--- OneBook for the worker, over any book that keeps its laws.
+-- The worker's invariant, over any book that keeps its laws, and that every step keeps it: a turn, a call, an answer of the store, a
+-- filling, a hand that goes or comes. All facts are about the past or only grow, so that what others do leaves them true: what a box
+-- held, what a page must hold, how far the ledger had come, which calls were made. Only the first lemmas of each part see the code.
 use mathlib.Core.Path.{_≡_, refl, sym, ap, subst, subst₂, subst₃, fun-ext, _∙_}
 use mathlib.Core.Logic.{_⊎_, inl, inr, ⊎-elim}
 use mathlib.Core.Bool.{Bool, true, false, cond, _||_, _&&_, not}
@@ -30,6 +32,7 @@ log-same l n e = omega arith
 pub log-some : (l : ℕ) → logBox l ≡ 0 → ⊥
 log-some l e = omega arith
 
+-- a call that was let in
 abbrev pub CallOk : (logs : ℕ) → Call → Type 0
 CallOk logs (Put l e) = (l < logs) × T (entryOk e)
 CallOk logs (Out' f n) = n ≤ 1024
@@ -52,6 +55,7 @@ unfolding caller tolds
 caller-tolds k i [] es = refl
 caller-tolds k i (t ∷ ts) es = caller-tolds k i ts es
 
+-- a page that could not be filled, though it fits, is filled already
 pub unfit-some : (e : ℕ) (y x : List ℕ) → T (leb (length x) 1048576 && allBytes x) → T (not (fillable (record { edition = e; bytes = y }) 0 x)) → 1 ≤ e
 unfit-some e y x fits un = go (eqb 0 e) refl (leb (length x) 1048576) (allBytes x) fits un
   where
@@ -62,6 +66,8 @@ unfit-some e y x fits un = go (eqb 0 e) refl (leb (length x) 1048576) (allBytes 
     go false u b c f n = let q = eqb-false 0 e u in omega arith
 
 module _ (o : Ops) (p : Plan) (logs : ℕ) (L : Laws o p logs) where
+  -- WHAT HAS COME TO BE: how many steps, what customers saw, the calls that are open and the replies that are ready in the
+  -- book-keeper's book, what each box held by edition and what it holds, the numbers by chance that were drawn
   pub record Core : Type 0 where
     pub n : ℕ
     pub seen : List (Seen Call Reply)
@@ -71,6 +77,7 @@ module _ (o : Ops) (p : Plan) (logs : ℕ) (L : Laws o p logs) where
     pub f : ℕ → Box
     pub drawn : List ℕ
 
+  -- with the book's world, the hands, and what is under way
   pub record View : Type 0 where
     pub w : L .World
     pub co : Core
@@ -83,6 +90,7 @@ module _ (o : Ops) (p : Plan) (logs : ℕ) (L : Laws o p logs) where
     pub same : e ≡ f b .edition → f b .bytes ≡ x
     pub was : L .Was w b x
 
+  -- a ledger with some logs taken into it, one after the other, while nothing was due
   pub data Taken (w : L .World) (x : List ℕ) : List ℕ → Type 0 where
     same : Taken w x x
     takes : {y : List ℕ} (l : ℕ) (b z : List ℕ) → Taken w x y → o .due y ≡ nothing → l < logs → L .Was w (logBox l) b → o .take y l b ≡ gives z → Taken w x z
@@ -97,12 +105,14 @@ module _ (o : Ops) (p : Plan) (logs : ℕ) (L : Laws o p logs) where
     pub todo : (a : Page) → List·Memᴰ a (o .pages led shown) → (1 ≤ f (a .box) .edition) ⊎ List·Memᴰ a ts
     pub sub : (a : Page) → List·Memᴰ a ts → List·Memᴰ a (o .pages led shown)
 
+  -- a ledger of an edition at which nothing is due, with what was taken since
   pub record Taking (w : L .World) (f : ℕ → Box) (e : ℕ) (y : List ℕ) : Type 0 where
     pub led : List ℕ
     pub old : OldAt w f 0 e led
     pub idle : o .due led ≡ nothing
     pub took : Taken w led y
 
+  -- WHAT A HAND AWAITS: its request is under way, and what it remembers of boxes was so
   abbrev pub PhaseOk : (w : L .World) (f : ℕ → Box) (ws : List (Way ℕ)) (i d q : ℕ) → Keep → Phase → Type 0
   PhaseOk w f ws i d q k rest = Unit {0}
   PhaseOk w f ws i d q k (log l) = (l < logs) × List·Memᴰ (wantsBox i d q (logBox l)) ws
@@ -117,15 +127,20 @@ module _ (o : Ops) (p : Plan) (logs : ℕ) (L : Laws o p logs) where
 
   -- a filling that was asked, by a batch that is not the one in hand
   pub record Other (f : ℕ → Box) (i c s l e : ℕ) (ps : List Job) (d : ℕ) (k : Keep) : Type 0 where
+    -- a batch of this life has a serial no greater than the last; a smaller one, if a batch is in hand
     pub older : c ≡ d → s ≤ k .serial
     pub past' : c ≡ d → (n : ℕ) (qs : List Job) → k .batch ≡ some n qs → s < k .serial
+    -- its calls neither wait nor are in the batch in hand
     pub clear : (j : Job) → List·Memᴰ j ps → (a : Job) → List·Memᴰ a (k .waiting) → j .number ≡ a .number → ⊥
     pub apart : (j : Job) → List·Memᴰ j ps → (n : ℕ) (qs : List Job) → k .batch ≡ some n qs → (a : Job) → List·Memᴰ a qs → j .number ≡ a .number → ⊥
+    -- once the batch in hand is in that log, this filling names an older edition: it can no longer succeed
     pub late : (n : ℕ) (qs : List Job) → k .batch ≡ some n qs → o .has (f (logBox l) .bytes) i d (k .serial) ≡ true → e < f (logBox l) .edition
 
+  -- a filling of a log that a hand with this mind may have asked for: of the batch in hand, or of another
   abbrev pub Mine : (f : ℕ → Box) (i c s l e : ℕ) (ps : List Job) (d : ℕ) (k : Keep) → Type 0
   Mine f i c s l e ps d k = ((c ≡ d) × (s ≡ k .serial) × (k .batch ≡ some l ps)) ⊎ Other f i c s l e ps d k
 
+  -- of a list of calls: they were made at that hand; they are open; their replies are ready; they are puts into that log
   abbrev pub Made : List (Seen Call Reply) → ℕ → List Job → Type 0
   Made es i ps = (j : Job) → List·Memᴰ j ps → caller (j .number) es ≡ by i (j .call)
 
@@ -138,6 +153,7 @@ module _ (o : Ops) (p : Plan) (logs : ℕ) (L : Laws o p logs) where
   abbrev pub Puts : ℕ → List Job → Type 0
   Puts l ps = (j : Job) → List·Memᴰ j ps → IsPut l (j .call)
 
+  -- A FILLING OF A LOG under way: of which log, which batch, by which floor, from which content
   pub record LogAsk (w : L .World) (v : Core) (i c b e : ℕ) (bs : List ℕ) : Type 0 where
     pub l : ℕ
     pub s : ℕ
@@ -146,27 +162,34 @@ module _ (o : Ops) (p : Plan) (logs : ℕ) (L : Laws o p logs) where
     pub bytes : List ℕ
     pub box-is : b ≡ logBox l
     pub in-logs : l < logs
+    -- it adds the batch to what the box held at the edition that it names, by a floor that is not above what is taken
     pub old : OldAt w (v .f) (logBox l) e bytes
     pub floor : L .Floor w fl
     pub adds : o .adds fl i c s l bytes (entries ps) ≡ gives bs
+    -- by a life that was drawn, under a serial of its own; at most eight puts with numbers of their own
     pub tag : Tag (v .n) i c s
     pub born : isIn c (v .drawn) ≡ true
     pub few : length (entries ps) ≤ 8
     pub distinct : Distinct ps
     pub puts : Puts l ps
     pub made : Made (v .seen) i ps
+    -- while the box has that edition, all its puts are open: then it is done by the book-keeper when it is filled
     pub open' : e ≡ v .f (logBox l) .edition → Opened (v .opens) i ps
 
+  -- and the hand that asked for it, if it is still there, knows of it
   pub record LogFill (w : L .World) (v : Core) (hand : ℕ → Stand Mind) (i c b e : ℕ) (bs : List ℕ) : Type 0 where
     pub ask : LogAsk w v i c b e bs
     pub mine : (d : ℕ) (m : Mind) → hand i ≡ here d m → Mine (v .f) i c (ask .s) (ask .l) e (ask .ps) d (m .keep)
 
+  -- A FILLING OF THE LEDGER under way: a due step whose pages are all filled, or logs that were taken
   abbrev pub LedFill : L .World → (ℕ → Box) → (b e : ℕ) → List ℕ → Type 0
   LedFill w f b e bs = (b ≡ 0) × (Doing w f e [] bs ⊎ Taking w f e bs)
 
+  -- A FILLING OF A PAGE under way: of edition 0, with what that page must hold
   abbrev pub PageFill : L .World → (b e : ℕ) → List ℕ → Type 0
   PageFill w b e bs = IsPage b × (e ≡ 0) × L .Must w b bs
 
+  -- each filling under way is one of the three
   abbrev pub Fact : L .World → Core → (ℕ → Stand Mind) → Way ℕ → Type 0
   Fact w v h (word j i m) = Unit {0}
   Fact w v h (wantsBox i c q b) = Unit {0}
@@ -174,6 +197,7 @@ module _ (o : Ops) (p : Plan) (logs : ℕ) (L : Laws o p logs) where
   Fact w v h (shows i c q x) = Unit {0}
   Fact w v h (says i c q d e) = Unit {0}
 
+  -- THE BATCH in hand
   pub record BatchOk (v : Core) (i d : ℕ) (k : Keep) (l : ℕ) (ps : List Job) : Type 0 where
     pub in-logs : l < logs
     pub from : 1 ≤ k .serial
@@ -181,44 +205,57 @@ module _ (o : Ops) (p : Plan) (logs : ℕ) (L : Laws o p logs) where
     pub puts : Puts l ps
     pub made : Made (v .seen) i ps
     pub clear : (j : Job) → List·Memᴰ j ps → (a : Job) → List·Memᴰ a (k .waiting) → j .number ≡ a .number → ⊥
+    -- if any content that the log had shows it as served, its replies are ready; if the log does not show it now, its puts are open
     pub inn : (e : ℕ) → e ≤ v .f (logBox l) .edition → o .has (v .past (logBox l) e) i d (k .serial) ≡ true → Readied (v .readies) i ps
     pub out' : o .has (v .f (logBox l) .bytes) i d (k .serial) ≡ false → Opened (v .opens) i ps
 
+  -- WHAT A HAND KEEPS
   pub record KeepOk (v : Core) (i d : ℕ) (k : Keep) : Type 0 where
     pub me : k .me ≡ i
     pub chance : k .chance ≡ d
     pub hand : i < 64
     pub life : d < 18446744073709551616
+    -- no more batches than steps
     pub serial : k .serial ≤ v .n
     pub born : isIn d (v .drawn) ≡ true
+    -- at most eight calls; those that wait were let in, were made here, are open, and have numbers of their own
     pub few : length (k .waiting) + putsOf (k .batch) ≤ 8
     pub ok : (j : Job) → List·Memᴰ j (k .waiting) → CallOk logs (j .call)
     pub made : Made (v .seen) i (k .waiting)
     pub open' : Opened (v .opens) i (k .waiting)
     pub distinct : Distinct (k .waiting)
+    -- no log ever showed a later batch of this life as served
     pub top : (l e t : ℕ) → e ≤ v .f (logBox l) .edition → 1 ≤ t → o .has (v .past (logBox l) e) i d t ≡ true → t ≤ k .serial
     pub batch : (l : ℕ) (ps : List Job) → k .batch ≡ some l ps → BatchOk v i d k l ps
 
+  -- A HAND that is there
   pub record HandOk (v : View) (i d : ℕ) (m : Mind) : Type 0 where
     pub keep : KeepOk (v .co) i d (m .keep)
     pub floor : L .Floor (v .w) (m .floor)
     pub phase : PhaseOk (v .w) (v .co .f) (v .ways) i d (m .asked) (m .keep) (m .phase)
 
+  -- WHAT A BOX HELD at an edition: the book knows it; a page that is filled holds what it must; served are lives that were drawn
   pub record HistOk (w : L .World) (drawn : List ℕ) (b e : ℕ) (x : List ℕ) : Type 0 where
     pub was : L .Was w b x
     pub must : IsPage b → 1 ≤ e → L .Must w b x
     pub lives : (l : ℕ) → b ≡ logBox l → (i c t : ℕ) → 1 ≤ t → o .has x i c t ≡ true → isIn c drawn ≡ true
 
+  -- THE INVARIANT
   pub record Good (v : View) : Type 0 where
+    -- the boxes are right for the logs
     pub sound : L .Sound (v .co .n) (v .w) (v .co .f)
+    -- there is a book-keeper's book of what customers saw, in the state with these logs
     pub loose : Loose (K p logs) (v .co .seen) (stateOf p logs (L .logsOf (v .w))) (v .co .opens) (v .co .readies)
+    -- as many logs as there are
     pub many : length (L .logsOf (v .w)) ≡ logs
+    -- what a box holds is what it held at its edition
     pub now : (b : ℕ) → v .co .past b (v .co .f b .edition) ≡ v .co .f b .bytes
+    -- all that boxes held, all that is under way, all hands
     pub hist : (b e : ℕ) → e ≤ v .co .f b .edition → HistOk (v .w) (v .co .drawn) b e (v .co .past b e)
     pub facts : (a : Way ℕ) → List·Memᴰ a (v .ways) → Fact (v .w) (v .co) (v .hand) a
     pub hands : (i d : ℕ) (m : Mind) → v .hand i ≡ here d m → HandOk v i d m
 
-  -- BOXES GO ON
+  -- BOXES GO ON: editions rise, and of one edition there is one content
   pub record Boxes (u w : L .World) (f g : ℕ → Box) : Type 0 where
     pub ups : L .Upto u w
     pub eds : (b : ℕ) → f b .edition ≤ g b .edition
@@ -270,6 +307,7 @@ module _ (o : Ops) (p : Plan) (logs : ℕ) (L : Laws o p logs) where
         go n qs b t true z = let q = eqb-true (f (logBox l) .edition) (g (logBox l) .edition) z in let r = h .late n qs b (ap (λ y. o .has y i d (k .serial)) (x .sames (logBox l) q) ∙ t) in omega arith
         go n qs b t false z = let q = eqb-false (f (logBox l) .edition) (g (logBox l) .edition) z in let r = x .eds (logBox l) in omega arith
 
+  -- what any step leaves true; whoever gives this keeps the facts of all that was under way
   pub record Grows (u w : L .World) (v v' : Core) (h h' : ℕ → Stand Mind) : Type 0 where
     pub ns : v .n ≤ v' .n
     pub boxes : Boxes u w (v .f) (v' .f)
@@ -327,6 +365,7 @@ module _ (o : Ops) (p : Plan) (logs : ℕ) (L : Laws o p logs) where
   abbrev pub Mines : List (Seen Call Reply) → (ℕ → Box) → (i c : ℕ) → Keep → Keep → Type 0
   Mines es f i c k k' = (d s l e : ℕ) (ps : List Job) → Made es i ps → Mine f i d s l e ps c k → Mine f i d s l e ps c k'
 
+  -- what a turn that tells nothing does: only this is asked of the code of a turn
   pub record Does (es : List (Seen Call Reply)) (w : L .World) (v : Core) (ws : List (Way ℕ)) (i c : ℕ) (k : Keep) (r : Step) : Type 0 where
     pub keep : KeepOk v i c (r .mind .keep)
     pub floor : L .Floor w (r .mind .floor)
@@ -391,6 +430,7 @@ module _ (o : Ops) (p : Plan) (logs : ℕ) (L : Laws o p logs) where
           (⊎-elim (λ z. inl (record { ask = z .0; mine = λ d n u. let q = at-mine i c (r .mind) (v .hand) d n u in inl (q .0, z .1 ∙ ap (λ k. k .keep .serial) (q .1), ap (λ k. k .keep .batch) (sym (q .1)) ∙ z .2) })) (λ z. inr z) y)
           (all-none (Fact (v .w) nco (at i (here c (r .mind)) (v .hand))))
 
+      -- a turn keeps the invariant
       pub moved : Good (movedTo r)
       moved = record {
         sound = L .later (h .sound);
@@ -404,6 +444,7 @@ module _ (o : Ops) (p : Plan) (logs : ℕ) (L : Laws o p logs) where
       }
 
   -- A FILLING SUCCEEDS
+  -- a hand while a box is filled: what it keeps stays true
   pub record Stood (v : View) (b : ℕ) (bs : List ℕ) (f' : ℕ → Box) (os : List (Open Call)) (rs : List (Ready Reply)) (j d : ℕ) (m : Mind) : Type 0 where
     pub waits : Opened os j (m .keep .waiting)
     pub top : (l : ℕ) → b ≡ logBox l → (t : ℕ) → 1 ≤ t → o .has bs j d t ≡ true → t ≤ m .keep .serial
@@ -480,6 +521,7 @@ module _ (o : Ops) (p : Plan) (logs : ℕ) (L : Laws o p logs) where
         };
       }
 
+      -- a filling that keeps the boxes right and every hand standing keeps the invariant
       pub filled : Good filledTo
       filled = record {
         sound = sound;
@@ -529,10 +571,12 @@ module _ (o : Ops) (p : Plan) (logs : ℕ) (L : Laws o p logs) where
           (λ j k l x y z u r. r) (λ a r. r) (stood-same b bs (record { edition = e + 1; bytes = bs }) no'),
     )
 
+    -- a page
     page-fill : (b e : ℕ) (bs : List ℕ) → e ≡ v .co .f b .edition → PageFill (v .w) b e bs → Filled' v i c q b e bs
     page-fill b e bs now x = let r = L .page-ok b bs small (h .sound) (x .0) (x .2) (sym now ∙ x .1) in
         plain b e bs (x .0 .1) now (r .0) (r .1) (subst (λ z. L .Sound (suc (v .co .n)) (r .0) (at b (record { edition = z + 1; bytes = bs }) (v .co .f))) (sym (x .1)) (r .2)) (r .3) (λ y. L .must-on (r .1) b bs (x .2))
 
+    -- logs that were taken one after the other, in one filling
     take-all : (e : ℕ) (x y : List ℕ) → v .co .f 0 .bytes ≡ x → Taken (v .w) x y → (w : L .World) × L .Upto (v .w) w × L .Sound (v .co .n) w (at 0 (record { edition = e + 1; bytes = y }) (v .co .f)) × (L .logsOf w ≡ L .logsOf (v .w))
     take-all e x y is same = let r = L .same-ok e (h .sound) in (r .0, r .1, subst (λ z. L .Sound (v .co .n) (r .0) (at 0 (record { edition = e + 1; bytes = z }) (v .co .f))) is (r .2), r .3)
     take-all e x y is (takes {y = u} l b z t d lt was g) =
@@ -545,6 +589,7 @@ module _ (o : Ops) (p : Plan) (logs : ℕ) (L : Laws o p logs) where
     no-log : (l : ℕ) → 0 ≡ logBox l → ⊥
     no-log l e = log-some l (sym e)
 
+    -- the ledger
     led-fill : (e : ℕ) (bs : List ℕ) → e ≡ v .co .f 0 .edition → Doing (v .w) (v .co .f) e [] bs ⊎ Taking (v .w) (v .co .f) e bs → Filled' v i c q 0 e bs
     led-fill e bs now (inr x) = let r = take-all e (x .led) bs (x .old .same now) (x .took) in plain 0 e bs no-log now (r .0) (r .1) (L .later (r .2)) (r .3) (λ y. absurd (y .0 refl))
     led-fill e bs now (inl x) = let r = L .step-ok e (x .shown) small (h .sound) right' pages' in
@@ -665,6 +710,7 @@ module _ (o : Ops) (p : Plan) (logs : ℕ) (L : Laws o p logs) where
       log-lives n u j d t one x = ⊎-elim (λ z. ap (λ y. isIn y (v .co .drawn)) (mine-has d t one (ap (λ y. o .has bs y d t) (sym (eqb-true j i z)) ∙ x) .0) ∙ dr)
           (λ z. h .hist (logBox l) (v .co .f (logBox l) .edition) (omega arith) .lives l refl j d t one (ap (λ y. o .has y j d t) past-is ∙ (sym (other-has j d t (eqb-false j i z)) ∙ x))) (cases-bool (eqb j i))
 
+      -- a log: the puts of the batch are done by the book-keeper at this moment
       log-fill : Filled' v i c q (logBox l) e bs
       log-fill = (
         put-it .0,
@@ -676,6 +722,7 @@ module _ (o : Ops) (p : Plan) (logs : ℕ) (L : Laws o p logs) where
             (λ j k n x y z u r. did .stay (opening j k x) r (apart-log j k n x z y u)) (did .still) all-stood,
       )
 
+    -- every filling that is under way and succeeds keeps the invariant
     pub fill-ok : (b e : ℕ) (bs : List ℕ) → e ≡ v .co .f b .edition → Fact (v .w) (v .co) (v .hand) (wantsFill i c q b e bs) → Filled' v i c q b e bs
     fill-ok b e bs now (inr (inr x)) = page-fill b e bs now x
     fill-ok b e bs now (inr (inl x)) = subst (λ z. e ≡ v .co .f z .edition → Filled' v i c q z e bs) (sym (x .0)) (λ y. led-fill e bs y (x .1)) now
@@ -1101,6 +1148,7 @@ module _ (o : Ops) (p : Plan) (logs : ℕ) (L : Laws o p logs) where
     filled-by d g s (answer' k f n) q = quiet (stays (hearing m true)) (stay-does true)
     filled-by d g s (gather k f n l got b) q = quiet (stays (hearing m true)) (stay-does true)
 
+    -- a turn on anything but a call keeps it
     pub turn-ok : {x : In ℕ Call} → Comes i c (v .ways) x → Turned v i c (v .co .seen) (acts o logs x m)
     unfolding acts
     turn-ok (a-word j w k) = quiet (stays m) same-does
@@ -1259,6 +1307,7 @@ module _ (o : Ops) (p : Plan) (logs : ℕ) (L : Laws o p logs) where
         (λ t. accept-ok k (Out' f n) new room (leb-true n 1024 t)) (λ t. refused k (Out' f n) new (No 1) (tooMany f n (stateOf p logs (L .logsOf (v .w))) tt (leb-false n 1024 t)))
     judge-ok room k (Drop n) new = refused k (Drop n) new (No 12) (not-yet (Drop n) (stateOf p logs (L .logsOf (v .w))) (λ z. z))
 
+    -- and a turn on a call
     pub call-ok : (k : ℕ) (x : Call) → isUsed k (v .co .seen) ≡ false → Turned v i c (called i k x ∷ v .co .seen) (acts o logs (Ask k x) m)
     unfolding acts
     call-ok k x new = cond-both (ltb (length (m .keep .waiting) + putsOf (m .keep .batch)) 8) (judges o logs m k x) (refuses o logs m k 11) (Turned v i c (called i k x ∷ v .co .seen)) (λ t. judge-ok (ltb-true (length (m .keep .waiting) + putsOf (m .keep .batch)) 8 t) k x new) (λ t. busy' k x new)
@@ -1309,6 +1358,7 @@ module _ (o : Ops) (p : Plan) (logs : ℕ) (L : Laws o p logs) where
           phase = phase-on (boxes-refl (v .w) (v .co .f)) (λ a z. Memᴰ·append-right new z) j d (m .asked) (m .keep) (m .phase) (k .phase);
         }
 
+  -- an answer of the store that changes no box; a hand that goes; one that comes
   pub answer-quiet : (v : View) → Good v → (a : Way ℕ) → ((w : L .World) (co : Core) (f : ℕ → Stand Mind) → Fact w co f a) → Good (record { w = v .w; co = next (v .co) (v .co .seen) (v .co .opens) (v .co .readies); hand = v .hand; ways = a ∷ v .ways })
   answer-quiet v h a fa = quiet-ok v h (v .hand) (a ∷ []) (v .co .drawn) (all-cons (Fact (v .w) (next (v .co) (v .co .seen) (v .co .opens) (v .co .readies)) (v .hand)) (fa (v .w) (next (v .co) (v .co .seen) (v .co .opens) (v .co .readies)) (v .hand)) (all-none (Fact (v .w) (next (v .co) (v .co .seen) (v .co .opens) (v .co .readies)) (v .hand))))
       (λ d y. y) (λ j d m y. inl y) (λ i c s l g ps bn made mine. mine)

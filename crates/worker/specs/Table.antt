@@ -221,57 +221,111 @@ abbrev pub m35 : Mind
 m35 = mind 28 true (log 0) (3 ∷ 7 ∷ 11 ∷ []) 1 0 2 none (job 110 (Put 0 (ev 8 1 2)) ∷ [])
 
 abbrev pub m36 : Mind
-m36 = mind 29 true put (3 ∷ 7 ∷ 11 ∷ []) 1 0 3 (some 0 (job 110 (Put 0 (ev 8 1 2)) ∷ [])) []
+m36 = mind 29 true ledger (3 ∷ 7 ∷ 11 ∷ []) 0 1 2 none (job 110 (Put 0 (ev 8 1 2)) ∷ [])
 
 abbrev pub m37 : Mind
-m37 = mind 30 true rest (3 ∷ 7 ∷ 11 ∷ []) 1 0 3 none []
+m37 = mind 30 true (look 4 (3 ∷ []) false 0) (3 ∷ []) 0 1 2 none (job 110 (Put 0 (ev 8 1 2)) ∷ [])
 
 abbrev pub m38 : Mind
-m38 = mind 31 true (answer' 111 4 0) (3 ∷ 7 ∷ 11 ∷ []) 1 0 3 none (job 111 (Out' 4 0) ∷ [])
+m38 = mind 31 true ledger (3 ∷ []) 0 1 2 none (job 110 (Put 0 (ev 8 1 2)) ∷ [])
 
 abbrev pub m39 : Mind
-m39 = mind 32 true rest (3 ∷ 7 ∷ 11 ∷ []) 1 0 3 none []
+m39 = mind 32 true (look 5 (3 ∷ []) false 0) (3 ∷ []) 0 1 2 none (job 110 (Put 0 (ev 8 1 2)) ∷ [])
 
 abbrev pub m40 : Mind
-m40 = mind 33 true (answer' 112 4 7) (3 ∷ 7 ∷ 11 ∷ []) 1 0 3 none (job 112 (Out' 4 7) ∷ [])
+m40 = mind 33 true kept (3 ∷ []) 0 1 2 none (job 110 (Put 0 (ev 8 1 2)) ∷ [])
 
 abbrev pub m41 : Mind
-m41 = mind 34 true rest (3 ∷ 7 ∷ 11 ∷ []) 1 0 3 none []
+m41 = mind 34 true ledger (3 ∷ []) 0 1 2 none (job 110 (Put 0 (ev 8 1 2)) ∷ [])
 
 abbrev pub m42 : Mind
-m42 = mind 35 true (log 1) (3 ∷ 7 ∷ 11 ∷ []) 1 0 3 none (job 113 (Put 1 (ev 9 1 2)) ∷ [])
+m42 = mind 35 true (written 6 (leaf 5 (7 ∷ [])) ((leaf 9 (8 ∷ [])) ∷ []) (2 ∷ 3 ∷ [])) (1 ∷ 3 ∷ []) 0 1 2 none (job 110 (Put 0 (ev 8 1 2)) ∷ [])
 
 abbrev pub m43 : Mind
-m43 = mind 35 true (log 1) (3 ∷ 7 ∷ 11 ∷ []) 1 0 3 none (job 113 (Put 1 (ev 9 1 2)) ∷ job 114 (Put 0 (Still 10)) ∷ [])
+m43 = mind 36 true (written 6 (leaf 9 (8 ∷ [])) [] (2 ∷ 3 ∷ [])) (1 ∷ 3 ∷ []) 0 1 2 none (job 110 (Put 0 (ev 8 1 2)) ∷ [])
 
 abbrev pub m44 : Mind
-m44 = mind 35 true (log 1) (3 ∷ 7 ∷ 11 ∷ []) 1 0 3 none (job 113 (Put 1 (ev 9 1 2)) ∷ job 114 (Put 0 (Still 10)) ∷ job 115 (Put 1 (Still 11)) ∷ [])
+m44 = mind 37 true kept (1 ∷ 3 ∷ []) 0 1 2 none (job 110 (Put 0 (ev 8 1 2)) ∷ [])
 
 abbrev pub m45 : Mind
-m45 = mind 35 true (log 1) (3 ∷ 7 ∷ 11 ∷ []) 1 0 3 none (job 113 (Put 1 (ev 9 1 2)) ∷ job 114 (Put 0 (Still 10)) ∷ job 115 (Put 1 (Still 11)) ∷ job 116 (Put 0 (Still 12)) ∷ [])
+m45 = mind 38 true ledger (1 ∷ 3 ∷ []) 0 1 2 none (job 110 (Put 0 (ev 8 1 2)) ∷ [])
 
 abbrev pub m46 : Mind
-m46 = mind 35 true (log 1) (3 ∷ 7 ∷ 11 ∷ []) 1 0 3 none (job 113 (Put 1 (ev 9 1 2)) ∷ job 114 (Put 0 (Still 10)) ∷ job 115 (Put 1 (Still 11)) ∷ job 116 (Put 0 (Still 12)) ∷ job 117 (Put 1 (Still 13)) ∷ [])
+m46 = mind 39 true (page' 8 (2 ∷ 3 ∷ []) 5) (2 ∷ 3 ∷ []) 0 1 2 none (job 110 (Put 0 (ev 8 1 2)) ∷ [])
 
 abbrev pub m47 : Mind
-m47 = mind 35 true (log 1) (3 ∷ 7 ∷ 11 ∷ []) 1 0 3 none (job 113 (Put 1 (ev 9 1 2)) ∷ job 114 (Put 0 (Still 10)) ∷ job 115 (Put 1 (Still 11)) ∷ job 116 (Put 0 (Still 12)) ∷ job 117 (Put 1 (Still 13)) ∷ job 118 (Put 0 (Still 14)) ∷ [])
+m47 = mind 39 false (page' 8 (2 ∷ 3 ∷ []) 5) (2 ∷ 3 ∷ []) 0 1 2 none (job 110 (Put 0 (ev 8 1 2)) ∷ [])
 
 abbrev pub m48 : Mind
-m48 = mind 35 true (log 1) (3 ∷ 7 ∷ 11 ∷ []) 1 0 3 none (job 113 (Put 1 (ev 9 1 2)) ∷ job 114 (Put 0 (Still 10)) ∷ job 115 (Put 1 (Still 11)) ∷ job 116 (Put 0 (Still 12)) ∷ job 117 (Put 1 (Still 13)) ∷ job 118 (Put 0 (Still 14)) ∷ job 119 (Put 1 (Still 15)) ∷ [])
+m48 = mind 40 false (log 0) (2 ∷ 3 ∷ []) 0 1 2 none (job 110 (Put 0 (ev 8 1 2)) ∷ [])
 
 abbrev pub m49 : Mind
-m49 = mind 35 true (log 1) (3 ∷ 7 ∷ 11 ∷ []) 1 0 3 none (job 113 (Put 1 (ev 9 1 2)) ∷ job 114 (Put 0 (Still 10)) ∷ job 115 (Put 1 (Still 11)) ∷ job 116 (Put 0 (Still 12)) ∷ job 117 (Put 1 (Still 13)) ∷ job 118 (Put 0 (Still 14)) ∷ job 119 (Put 1 (Still 15)) ∷ job 120 (Put 0 (Still 16)) ∷ [])
+m49 = mind 41 true ledger (2 ∷ 3 ∷ []) 0 1 2 none (job 110 (Put 0 (ev 8 1 2)) ∷ [])
 
 abbrev pub m50 : Mind
-m50 = mind 36 true put (3 ∷ 7 ∷ 11 ∷ []) 1 0 4 (some 1 (job 113 (Put 1 (ev 9 1 2)) ∷ job 115 (Put 1 (Still 11)) ∷ job 117 (Put 1 (Still 13)) ∷ job 119 (Put 1 (Still 15)) ∷ [])) (job 114 (Put 0 (Still 10)) ∷ job 116 (Put 0 (Still 12)) ∷ job 118 (Put 0 (Still 14)) ∷ job 120 (Put 0 (Still 16)) ∷ [])
+m50 = mind 42 true (look 9 (3 ∷ 7 ∷ 3 ∷ []) false 0) (3 ∷ 7 ∷ 3 ∷ []) 0 1 2 none (job 110 (Put 0 (ev 8 1 2)) ∷ [])
 
 abbrev pub m51 : Mind
-m51 = mind 37 true (log 0) (3 ∷ 7 ∷ 11 ∷ []) 1 0 4 none (job 114 (Put 0 (Still 10)) ∷ job 116 (Put 0 (Still 12)) ∷ job 118 (Put 0 (Still 14)) ∷ job 120 (Put 0 (Still 16)) ∷ [])
+m51 = mind 43 true kept (3 ∷ 7 ∷ 3 ∷ []) 1 0 2 none (job 110 (Put 0 (ev 8 1 2)) ∷ [])
 
 abbrev pub m52 : Mind
-m52 = mind 37 true (log 0) (3 ∷ 7 ∷ 11 ∷ []) 1 0 4 none (job 114 (Put 0 (Still 10)) ∷ job 116 (Put 0 (Still 12)) ∷ job 118 (Put 0 (Still 14)) ∷ job 120 (Put 0 (Still 16)) ∷ job 125 (Put 1 (ev 9 1 2)) ∷ [])
+m52 = mind 44 true ledger (3 ∷ 7 ∷ 3 ∷ []) 1 0 2 none (job 110 (Put 0 (ev 8 1 2)) ∷ [])
 
--- THE TABLE: 82 turns, each from the mind that one before it left
+abbrev pub m53 : Mind
+m53 = mind 45 true (log 0) (10 ∷ 3 ∷ 7 ∷ 3 ∷ []) 1 0 2 none (job 110 (Put 0 (ev 8 1 2)) ∷ [])
+
+abbrev pub m54 : Mind
+m54 = mind 46 true put (10 ∷ 3 ∷ 7 ∷ 3 ∷ []) 1 0 3 (some 0 (job 110 (Put 0 (ev 8 1 2)) ∷ [])) []
+
+abbrev pub m55 : Mind
+m55 = mind 47 true rest (10 ∷ 3 ∷ 7 ∷ 3 ∷ []) 1 0 3 none []
+
+abbrev pub m56 : Mind
+m56 = mind 48 true (answer' 111 4 0) (10 ∷ 3 ∷ 7 ∷ 3 ∷ []) 1 0 3 none (job 111 (Out' 4 0) ∷ [])
+
+abbrev pub m57 : Mind
+m57 = mind 49 true rest (10 ∷ 3 ∷ 7 ∷ 3 ∷ []) 1 0 3 none []
+
+abbrev pub m58 : Mind
+m58 = mind 50 true (answer' 112 4 7) (10 ∷ 3 ∷ 7 ∷ 3 ∷ []) 1 0 3 none (job 112 (Out' 4 7) ∷ [])
+
+abbrev pub m59 : Mind
+m59 = mind 51 true rest (10 ∷ 3 ∷ 7 ∷ 3 ∷ []) 1 0 3 none []
+
+abbrev pub m60 : Mind
+m60 = mind 52 true (log 1) (10 ∷ 3 ∷ 7 ∷ 3 ∷ []) 1 0 3 none (job 113 (Put 1 (ev 9 1 2)) ∷ [])
+
+abbrev pub m61 : Mind
+m61 = mind 52 true (log 1) (10 ∷ 3 ∷ 7 ∷ 3 ∷ []) 1 0 3 none (job 113 (Put 1 (ev 9 1 2)) ∷ job 114 (Put 0 (Still 10)) ∷ [])
+
+abbrev pub m62 : Mind
+m62 = mind 52 true (log 1) (10 ∷ 3 ∷ 7 ∷ 3 ∷ []) 1 0 3 none (job 113 (Put 1 (ev 9 1 2)) ∷ job 114 (Put 0 (Still 10)) ∷ job 115 (Put 1 (Still 11)) ∷ [])
+
+abbrev pub m63 : Mind
+m63 = mind 52 true (log 1) (10 ∷ 3 ∷ 7 ∷ 3 ∷ []) 1 0 3 none (job 113 (Put 1 (ev 9 1 2)) ∷ job 114 (Put 0 (Still 10)) ∷ job 115 (Put 1 (Still 11)) ∷ job 116 (Put 0 (Still 12)) ∷ [])
+
+abbrev pub m64 : Mind
+m64 = mind 52 true (log 1) (10 ∷ 3 ∷ 7 ∷ 3 ∷ []) 1 0 3 none (job 113 (Put 1 (ev 9 1 2)) ∷ job 114 (Put 0 (Still 10)) ∷ job 115 (Put 1 (Still 11)) ∷ job 116 (Put 0 (Still 12)) ∷ job 117 (Put 1 (Still 13)) ∷ [])
+
+abbrev pub m65 : Mind
+m65 = mind 52 true (log 1) (10 ∷ 3 ∷ 7 ∷ 3 ∷ []) 1 0 3 none (job 113 (Put 1 (ev 9 1 2)) ∷ job 114 (Put 0 (Still 10)) ∷ job 115 (Put 1 (Still 11)) ∷ job 116 (Put 0 (Still 12)) ∷ job 117 (Put 1 (Still 13)) ∷ job 118 (Put 0 (Still 14)) ∷ [])
+
+abbrev pub m66 : Mind
+m66 = mind 52 true (log 1) (10 ∷ 3 ∷ 7 ∷ 3 ∷ []) 1 0 3 none (job 113 (Put 1 (ev 9 1 2)) ∷ job 114 (Put 0 (Still 10)) ∷ job 115 (Put 1 (Still 11)) ∷ job 116 (Put 0 (Still 12)) ∷ job 117 (Put 1 (Still 13)) ∷ job 118 (Put 0 (Still 14)) ∷ job 119 (Put 1 (Still 15)) ∷ [])
+
+abbrev pub m67 : Mind
+m67 = mind 52 true (log 1) (10 ∷ 3 ∷ 7 ∷ 3 ∷ []) 1 0 3 none (job 113 (Put 1 (ev 9 1 2)) ∷ job 114 (Put 0 (Still 10)) ∷ job 115 (Put 1 (Still 11)) ∷ job 116 (Put 0 (Still 12)) ∷ job 117 (Put 1 (Still 13)) ∷ job 118 (Put 0 (Still 14)) ∷ job 119 (Put 1 (Still 15)) ∷ job 120 (Put 0 (Still 16)) ∷ [])
+
+abbrev pub m68 : Mind
+m68 = mind 53 true put (10 ∷ 3 ∷ 7 ∷ 3 ∷ []) 1 0 4 (some 1 (job 113 (Put 1 (ev 9 1 2)) ∷ job 115 (Put 1 (Still 11)) ∷ job 117 (Put 1 (Still 13)) ∷ job 119 (Put 1 (Still 15)) ∷ [])) (job 114 (Put 0 (Still 10)) ∷ job 116 (Put 0 (Still 12)) ∷ job 118 (Put 0 (Still 14)) ∷ job 120 (Put 0 (Still 16)) ∷ [])
+
+abbrev pub m69 : Mind
+m69 = mind 54 true (log 0) (10 ∷ 3 ∷ 7 ∷ 3 ∷ []) 1 0 4 none (job 114 (Put 0 (Still 10)) ∷ job 116 (Put 0 (Still 12)) ∷ job 118 (Put 0 (Still 14)) ∷ job 120 (Put 0 (Still 16)) ∷ [])
+
+abbrev pub m70 : Mind
+m70 = mind 54 true (log 0) (10 ∷ 3 ∷ 7 ∷ 3 ∷ []) 1 0 4 none (job 114 (Put 0 (Still 10)) ∷ job 116 (Put 0 (Still 12)) ∷ job 118 (Put 0 (Still 14)) ∷ job 120 (Put 0 (Still 16)) ∷ job 125 (Put 1 (ev 9 1 2)) ∷ [])
+
+-- THE TABLE: 86 turns, each from the mind that one before it left
 abbrev pub table : List Turn
 table =
     -- words of other workers are ignored
@@ -312,7 +366,7 @@ table =
     turn (Shown 11 (filled 2 (2 ∷ 11 ∷ []))) m13 (Show 12 5 ∷ []) m14 ∷
     -- the page is there
     turn (Shown 12 (filled 1 (7 ∷ []))) m14 (Fill 13 6 0 (7 ∷ []) ∷ []) m15 ∷
-    -- a filling is told where a showing is awaited
+    -- a showing where a filling is awaited
     turn (Shown 13 (filled 1 (7 ∷ []))) m15 [] m15 ∷
     -- a step with one page
     turn (Filled 13 true 1) m15 (Fill 14 0 2 (3 ∷ 7 ∷ 11 ∷ []) ∷ []) m16 ∷
@@ -366,78 +420,86 @@ table =
     turn (Shown 26 (filled 1 (21 ∷ []))) m33 (Show 27 5 ∷ []) m34 ∷
     -- and another: all is told, then the call that waits
     turn (Shown 27 (filled 1 (22 ∷ 23 ∷ []))) m34 (Tell 109 (Outs (event 21 0 1 ∷ event 22 0 2 ∷ [])) ∷ Show 28 4 ∷ []) m35 ∷
-    -- no room: the ledger is to take this log first
-    turn (Shown 28 (filled 6 (2 ∷ 60 ∷ 1 ∷ 1 ∷ 2 ∷ 3 ∷ 4 ∷ []))) m35 (Fill 29 4 6 (1 ∷ 77 ∷ 3 ∷ 1 ∷ 2 ∷ 3 ∷ 4 ∷ 8 ∷ []) ∷ []) m36 ∷
-    -- a look at this log
-    turn (Shown 29 (filled 4 (3 ∷ []))) m36 [] m36 ∷
-    -- the ledger is an old one
-    turn (Shown 29 (filled 6 (99 ∷ []))) m36 [] m36 ∷
-    -- the ledger
-    turn (Shown 29 (filled 5 (3 ∷ []))) m36 [] m36 ∷
-    -- taken, and now something is due: that first
-    turn (Shown 29 (filled 6 (50 ∷ 1 ∷ 2 ∷ []))) m36 [] m36 ∷
+    -- no room: the ledger is to take this log first, and the batch is not fixed
+    turn (Shown 28 (filled 6 (2 ∷ 60 ∷ 1 ∷ 1 ∷ 2 ∷ 3 ∷ 4 ∷ 5 ∷ 6 ∷ 7 ∷ []))) m35 (Show 29 0 ∷ []) m36 ∷
+    -- nothing is due: a look at this log only
+    turn (Shown 29 (filled 4 (3 ∷ []))) m36 (Show 30 4 ∷ []) m37 ∷
+    -- the box shows that the ledger in hand is an old one: it again
+    turn (Shown 30 (filled 6 (99 ∷ []))) m37 (Show 31 0 ∷ []) m38 ∷
+    -- the log again
+    turn (Shown 31 (filled 5 (3 ∷ []))) m38 (Show 32 4 ∷ []) m39 ∷
+    -- taken, and now something is due: filled in, and this log is to be looked at again
+    turn (Shown 32 (filled 6 (50 ∷ 1 ∷ 2 ∷ []))) m39 (Fill 33 0 5 (1 ∷ 3 ∷ []) ∷ []) m40 ∷
     -- filled
-    turn (Filled 29 true 6) m36 (Tell 110 Yes ∷ []) m37 ∷
-    -- the step that is due
-    turn (Shown 30 (filled 6 (1 ∷ 3 ∷ []))) m37 [] m37 ∷
-    -- its pages
-    turn (Filled 30 true 1) m37 [] m37 ∷
-    -- its pages, all
-    turn (Filled 30 true 1) m37 [] m37 ∷
+    turn (Filled 33 true 6) m40 (Show 34 0 ∷ []) m41 ∷
+    -- the step that is due: its first page
+    turn (Shown 34 (filled 6 (1 ∷ 3 ∷ []))) m41 (Fill 35 5 0 (7 ∷ []) ∷ []) m42 ∷
+    -- its second page
+    turn (Filled 35 true 1) m42 (Fill 36 9 0 (8 ∷ []) ∷ []) m43 ∷
+    -- all its pages: the ledger
+    turn (Filled 36 true 1) m43 (Fill 37 0 6 (2 ∷ 3 ∷ []) ∷ []) m44 ∷
+    -- the ledger was filled by another
+    turn (Filled 37 false 8) m44 (Show 38 0 ∷ []) m45 ∷
+    -- a step with a page
+    turn (Shown 38 (filled 8 (2 ∷ 3 ∷ []))) m45 (Show 39 5 ∷ []) m46 ∷
+    -- a beat: something was heard
+    turn Beat m46 [] m47 ∷
+    -- a beat: nothing was heard, so all begins with the call that waits
+    turn Beat m47 (Show 40 4 ∷ []) m48 ∷
+    -- still no room, by a lower floor too
+    turn (Shown 40 (filled 7 (2 ∷ 60 ∷ 1 ∷ 1 ∷ 2 ∷ 3 ∷ 4 ∷ 5 ∷ 6 ∷ 7 ∷ []))) m48 (Show 41 0 ∷ []) m49 ∷
+    -- nothing is due any more: the log
+    turn (Shown 41 (filled 9 (3 ∷ 7 ∷ 3 ∷ []))) m49 (Show 42 4 ∷ []) m50 ∷
+    -- taken: filled in, since no log is left
+    turn (Shown 42 (filled 7 (4 ∷ 1 ∷ []))) m50 (Fill 43 0 9 (10 ∷ 3 ∷ 7 ∷ 3 ∷ []) ∷ []) m51 ∷
     -- the ledger
-    turn (Filled 30 true 7) m37 [] m37 ∷
-    -- nothing is due: the log again
-    turn (Shown 30 (filled 7 (3 ∷ 12 ∷ []))) m37 [] m37 ∷
-    -- taken as it is already: filled in
-    turn (Shown 30 (filled 7 (4 ∷ 1 ∷ []))) m37 [] m37 ∷
-    -- the ledger
-    turn (Filled 30 true 8) m37 [] m37 ∷
-    -- nothing left to look at: the put again
-    turn (Shown 30 (filled 8 (10 ∷ 3 ∷ 12 ∷ []))) m37 [] m37 ∷
+    turn (Filled 43 true 10) m51 (Show 44 0 ∷ []) m52 ∷
+    -- nothing is due, no log left: the put again
+    turn (Shown 44 (filled 10 (10 ∷ 3 ∷ 7 ∷ 3 ∷ []))) m52 (Show 45 4 ∷ []) m53 ∷
     -- room, by what the ledger has taken
-    turn (Shown 30 (filled 7 (2 ∷ 60 ∷ 1 ∷ 1 ∷ 2 ∷ 3 ∷ 4 ∷ []))) m37 [] m37 ∷
+    turn (Shown 45 (filled 7 (2 ∷ 60 ∷ 1 ∷ 1 ∷ 2 ∷ 3 ∷ 4 ∷ 5 ∷ 6 ∷ 7 ∷ []))) m53 (Fill 46 4 7 (1 ∷ 77 ∷ 3 ∷ 1 ∷ 2 ∷ 3 ∷ 4 ∷ 5 ∷ 6 ∷ 7 ∷ 8 ∷ []) ∷ []) m54 ∷
     -- filled: told, and at rest
-    turn (Filled 30 true 8) m37 [] m37 ∷
+    turn (Filled 46 true 8) m54 (Tell 110 Yes ∷ []) m55 ∷
     -- an answer at rest, again
-    turn (Filled 29 true 8) m37 [] m37 ∷
+    turn (Filled 46 true 8) m55 [] m55 ∷
     -- a call at rest starts at once
-    turn (Ask 111 (Out' 4 0)) m37 (Show 31 0 ∷ []) m38 ∷
+    turn (Ask 111 (Out' 4 0)) m55 (Show 48 0 ∷ []) m56 ∷
     -- none are asked for: none are told
-    turn (Shown 31 (filled 8 (3 ∷ []))) m38 (Tell 111 (Outs []) ∷ []) m39 ∷
+    turn (Shown 48 (filled 8 (3 ∷ []))) m56 (Tell 111 (Outs []) ∷ []) m57 ∷
     -- a call at rest
-    turn (Ask 112 (Out' 4 7)) m39 (Show 33 0 ∷ []) m40 ∷
+    turn (Ask 112 (Out' 4 7)) m57 (Show 50 0 ∷ []) m58 ∷
     -- a ledger with no pages
-    turn (Shown 33 (filled 8 (10 ∷ []))) m40 (Tell 112 (Outs []) ∷ []) m41 ∷
+    turn (Shown 50 (filled 8 (10 ∷ []))) m58 (Tell 112 (Outs []) ∷ []) m59 ∷
     -- a call at rest
-    turn (Ask 113 (Put 1 (ev 9 1 2))) m41 (Show 35 8 ∷ []) m42 ∷
+    turn (Ask 113 (Put 1 (ev 9 1 2))) m59 (Show 52 8 ∷ []) m60 ∷
     -- calls wait
-    turn (Ask 114 (Put 0 (Still 10))) m42 [] m43 ∷
+    turn (Ask 114 (Put 0 (Still 10))) m60 [] m61 ∷
     -- calls wait
-    turn (Ask 115 (Put 1 (Still 11))) m43 [] m44 ∷
+    turn (Ask 115 (Put 1 (Still 11))) m61 [] m62 ∷
     -- calls wait
-    turn (Ask 116 (Put 0 (Still 12))) m44 [] m45 ∷
+    turn (Ask 116 (Put 0 (Still 12))) m62 [] m63 ∷
     -- calls wait
-    turn (Ask 117 (Put 1 (Still 13))) m45 [] m46 ∷
+    turn (Ask 117 (Put 1 (Still 13))) m63 [] m64 ∷
     -- calls wait
-    turn (Ask 118 (Put 0 (Still 14))) m46 [] m47 ∷
+    turn (Ask 118 (Put 0 (Still 14))) m64 [] m65 ∷
     -- calls wait
-    turn (Ask 119 (Put 1 (Still 15))) m47 [] m48 ∷
+    turn (Ask 119 (Put 1 (Still 15))) m65 [] m66 ∷
     -- calls wait
-    turn (Ask 120 (Put 0 (Still 16))) m48 [] m49 ∷
+    turn (Ask 120 (Put 0 (Still 16))) m66 [] m67 ∷
     -- a ninth call is handed back
-    turn (Ask 121 (Put 1 (ev 9 1 2))) m49 (Tell 121 (No 11) ∷ []) m49 ∷
+    turn (Ask 121 (Put 1 (ev 9 1 2))) m67 (Tell 121 (No 11) ∷ []) m67 ∷
     -- also one that is wrong
-    turn (Ask 122 (Put 2 (Still 4611686018427387904))) m49 (Tell 122 (No 11) ∷ []) m49 ∷
+    turn (Ask 122 (Put 2 (Still 4611686018427387904))) m67 (Tell 122 (No 11) ∷ []) m67 ∷
     -- also one that is not built
-    turn (Ask 123 (Drop 1)) m49 (Tell 123 (No 11) ∷ []) m49 ∷
-    -- five of eight are for this log
-    turn (Shown 35 (filled 2 [])) m49 (Fill 36 8 2 (1 ∷ 77 ∷ 4 ∷ 9 ∷ 11 ∷ 13 ∷ 15 ∷ []) ∷ []) m50 ∷
+    turn (Ask 123 (Drop 1)) m67 (Tell 123 (No 11) ∷ []) m67 ∷
+    -- four of eight are for this log
+    turn (Shown 52 (filled 2 [])) m67 (Fill 53 8 2 (1 ∷ 77 ∷ 4 ∷ 9 ∷ 11 ∷ 13 ∷ 15 ∷ []) ∷ []) m68 ∷
     -- the batch counts: still a ninth
-    turn (Ask 124 (Put 1 (ev 9 1 2))) m50 (Tell 124 (No 11) ∷ []) m50 ∷
-    -- no longer than asked: all five told
-    turn (Filled 36 true 3) m50 (Tell 113 Yes ∷ Tell 115 Yes ∷ Tell 117 Yes ∷ Tell 119 Yes ∷ Show 37 4 ∷ []) m51 ∷
+    turn (Ask 124 (Put 1 (ev 9 1 2))) m68 (Tell 124 (No 11) ∷ []) m68 ∷
+    -- filled: all four are told, and the next log
+    turn (Filled 53 true 3) m68 (Tell 113 Yes ∷ Tell 115 Yes ∷ Tell 117 Yes ∷ Tell 119 Yes ∷ Show 54 4 ∷ []) m69 ∷
     -- now there is room for a call
-    turn (Ask 125 (Put 1 (ev 9 1 2))) m51 [] m52 ∷
+    turn (Ask 125 (Put 1 (ev 9 1 2))) m69 [] m70 ∷
     []
 
 -- of two logs; its first mind is the one that it begins with
