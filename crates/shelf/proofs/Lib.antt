@@ -1,0 +1,9 @@
+pub mod Places
+pub mod Callers
+pub mod History
+pub mod Moments
+pub mod Numbers
+pub mod Waiting
+pub mod Counts
+pub mod Latelooks
+pub mod Scripts

@@ -1,0 +1,14 @@
+pub mod Jobs
+pub mod Invariant
+pub mod Onebook
+pub mod Busy
+pub mod Plainlaws
+pub mod Alone
+pub mod Tending
+pub mod Ends
+pub mod Keeping
+pub mod Comesout
+pub mod Together
+pub mod Smallbytes
+pub mod Smalllaws
+pub mod Table

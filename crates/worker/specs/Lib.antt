@@ -1,0 +1,5 @@
+pub mod Worker
+pub mod Laws
+pub mod Theorems
+pub mod Small
+pub mod Table
