@@ -1,0 +1,5 @@
+pub mod Rows
+pub mod Queue
+pub mod Held
+pub mod Flow
+pub mod Due
