@@ -6,3 +6,5 @@ mod Flow
 mod Weights
 mod Due
 mod Stands
+mod Logs
+mod Book

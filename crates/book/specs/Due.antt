@@ -13,13 +13,15 @@ use Rattle.book.specs.Queue.{Link, nil, page, Seg, Page, Blank, RowPage, Index
 use Rattle.book.specs.Held.{Paged, Segs, plain, packed, heads, Held, queueOf, HeldIn, contents, Order, Fresh, Alive}
 use Rattle.book.specs.Flow.{rowOf, howOf, Onward, Out, On, Gone, onward, Flows}
 
--- how many there should be: rows in the front, in the buffer and in a page; segments of one level; rows let go in a step
+-- how many there should be: rows in the front, in the buffer and in a page; segments of one level; rows let go in a step; events in an out page and in a log box
 pub record Sizes : Type 0 where
   pub front : ℕ
   pub buffer : ℕ
   pub rows : ℕ
   pub segments : ℕ
   pub emits : ℕ
+  pub outs : ℕ
+  pub log : ℕ
 
 -- EMIT: rows that have ended, in order: to the next stage, or out
 pub record Emitted : Type 0 where

@@ -3,3 +3,5 @@ pub mod Queue
 pub mod Held
 pub mod Flow
 pub mod Due
+pub mod Ledger
+pub mod Book
