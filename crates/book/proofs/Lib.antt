@@ -8,3 +8,4 @@ mod Due
 mod Stands
 mod Logs
 mod Book
+mod Words

@@ -5,3 +5,4 @@ pub mod Flow
 pub mod Due
 pub mod Ledger
 pub mod Book
+pub mod Words
