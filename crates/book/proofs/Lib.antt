@@ -9,3 +9,4 @@ mod Stands
 mod Logs
 mod Book
 mod Words
+mod Numbers

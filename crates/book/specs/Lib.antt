@@ -6,3 +6,4 @@ pub mod Due
 pub mod Ledger
 pub mod Book
 pub mod Words
+pub mod Numbers
