@@ -13,14 +13,14 @@ use Rattle.streams.proofs.Logs.{lessBy-is}
 use Rattle.streams.specs.Meaning.{Event, Entry, Stage, Plan, Cell, Sum, word, lessBy, cells, ended, eventsOf, mark, allInTime, throughAll, out}
 use Rattle.book.specs.Rows.{Key, Row, Bef, Upto, add, onto, Each, Above, Sorted}
 use Rattle.book.specs.Queue.{Link, nil, page, Seg, Page, Blank, RowPage, IndexPage, Pages, Write, written, Queue, After, place, places, lowerBy, packBy, siftBy, isOf, pick, left, spill, lower, pack, sift, unpack, open', pageOf, headAt, Spilled, spillAt}
-use Rattle.book.specs.Held.{Paged, Segs, none, plain, packed, Held, headOf, heads, queueOf, ChainIn, SegsIn, HeldIn, chainRows, under, contents, Under, Over, Within, ChainOk, FirstIs, SegsOk, Order, Fresh, Kept, Alive, Till, Free, levelOf}
+use Rattle.book.specs.Held.{Paged, Segs, none, plain, packed, Held, headOf, heads, queueOf, ChainIn, SegsIn, HeldIn, chainRows, under, contents, Under, Over, Within, ChainOk, FirstIs, SegsOk, Order, Fresh, Kept, Alive, Till, Free, levelOf, Full, LeanSegs, Lean, rowsOf}
 use Rattle.book.specs.Flow.{rowOf, howOf, eventOf, Onward, Out, On, Gone, onwardBy, onward, rest, outs, Flows}
-use Rattle.book.specs.Due.{Sizes, Emitted, goOn, popped, then', emitBy, emit, Step, Spill, Lower, Pack, Sift, Emit, Unpack, Open, Due, Nothing, Do, fullest, atLevel, belowLevel, Crowd, calm, crowded, crowd, dueFirst, dueSegments, dueFront, dueSource, dueRows, dueCrowd, due, indexOf, shows, Done, quiet, do', take', Sound, Sized, empty, SoundAtFirst, SoundTaken, SoundLater, SoundDone, AllCameOut, Has, SizesOk, count, Runs, rests, goes, ComesOut, SameCells, OutOfLogs, LeastIsFirst, AnyPlace, Keeps, StepsKeep}
+use Rattle.book.specs.Due.{Sizes, Emitted, goOn, popped, then', emitBy, emit, Step, Spill, Lower, Pack, Sift, Emit, Unpack, Open, Due, Nothing, Do, fullest, atLevel, belowLevel, Crowd, calm, crowded, crowd, dueFirst, dueSegments, dueFront, dueSource, dueRows, dueCrowd, due, indexOf, shows, Done, quiet, do', take', Sound, Sized, empty, SoundAtFirst, SoundTaken, SoundLater, SoundDone, AllCameOut, Has, SizesOk, count, Runs, rests, goes, ComesOut, SameCells, OutOfLogs, LeastIsFirst, AnyPlace}
 use Rattle.book.proofs.Rows.{Tri, lo, eq, hi, tri, bef-trans, onto-none, add-lo, add-eq, add-hi, onto-both, onto-append, onto-onto}
-use Rattle.book.proofs.Lists.{each-like, each-onto, each-append, sorted-onto, add-first, bef-upto-trans, sorted-mid, each-left}
-use Rattle.book.proofs.Steps.{placeH, place-is, place-contents, place-order, lower-keeps, sift-keeps, open-keeps, unpack-keeps, pack-keeps, belowOf, placesH, places-is, places-segs, under-down, appendS}
+use Rattle.book.proofs.Lists.{each-like, each-onto, each-append, sorted-onto, add-first, bef-upto-trans, sorted-mid, each-left, length-pick}
+use Rattle.book.proofs.Steps.{placeH, place-is, place-contents, place-order, lower-keeps, sift-keeps, open-keeps, unpack-keeps, pack-keeps, belowOf, placesH, places-is, places-segs, under-down, appendS, place-few, length-onto}
 use Rattle.book.proofs.Spill.{spill-keeps}
-use Rattle.book.proofs.Weights.{length-onto, places-weight, length-pick, picks, spills, spilled-more, weight}
+use Rattle.book.proofs.Weights.{places-weight, picks, spills, spilled-more, weight}
 use Rattle.book.proofs.Flow.{Fits, takeRow, flows-pop, flows-take, flows-done, flows-first, flows-later}
 
 -- ALL THAT IS NOT IN THE FRONT is after what is below the first low
@@ -155,6 +155,8 @@ pub record Emits (sts : List Stage) (m : ℕ) (es : List Event) (f : Pages) (k :
   pub none : held .source ≡ []
   pub alive : Alive (Has (contents (howOf sts) held)) (held .segs)
   pub flows : Flows sts m es (contents (howOf sts) held) (os ++ e .outs)
+  pub lean : Lean held
+  pub few : rowsOf held ≤ rowsOf h
   pub next : held .next ≡ h .next
   pub most : load (length sts) (contents (howOf sts) held) ≤ load (length sts) (contents (howOf sts) h)
   pub less : Ended m (h .front) → 1 ≤ k → load (length sts) (contents (howOf sts) held) < load (length sts) (contents (howOf sts) h)
@@ -168,27 +170,29 @@ record Went (sts : List Stage) (m : ℕ) (es : List Event) (f : Pages) (h : Held
   none : held .source ≡ []
   alive : Alive (Has (contents (howOf sts) held)) (held .segs)
   flows : Flows sts m es (contents (howOf sts) held) (os ++ e .outs)
+  lean : Lean held
+  few : rowsOf held ≤ suc (rowsOf h)
   next : held .next ≡ h .next
   same : contents (howOf sts) held ≡ rest (howOf sts) o (contents (howOf sts) h)
 
-go-on : (sts : List Stage) (m : ℕ) (es : List Event) (f : Pages) (h : Held) (os : List Event) (o : Onward) → HeldIn f h → Order h → h .source ≡ [] → Alive (Has (contents (howOf sts) h)) (h .segs) → Flows sts m es (rest (howOf sts) o (contents (howOf sts) h)) (outs o os) → Went sts m es f h o os (goOn (howOf sts) o (queueOf h))
-go-on sts m es f h os (Out e) i o n a w = record { held = h; is = refl; pages = i; order = o; none = n; alive = a; flows = w; next = refl; same = refl }
-go-on sts m es f h os (On r) i o n a w =
-    record { held = placeH (howOf sts) r h; is = place-is (howOf sts) r h; pages = i; order = place-order (howOf sts) r h o; none = n;
+go-on : (sts : List Stage) (m : ℕ) (es : List Event) (f : Pages) (h : Held) (os : List Event) (o : Onward) → HeldIn f h → Order h → h .source ≡ [] → Lean h → Alive (Has (contents (howOf sts) h)) (h .segs) → Flows sts m es (rest (howOf sts) o (contents (howOf sts) h)) (outs o os) → Went sts m es f h o os (goOn (howOf sts) o (queueOf h))
+go-on sts m es f h os (Out e) i o n l a w = record { held = h; is = refl; pages = i; order = o; none = n; lean = l; few = omega arith; alive = a; flows = w; next = refl; same = refl }
+go-on sts m es f h os (On r) i o n l a w =
+    record { held = placeH (howOf sts) r h; is = place-is (howOf sts) r h; pages = i; order = place-order (howOf sts) r h o; none = n; lean = record { segs = l .segs; source = l .source }; few = place-few (howOf sts) r h;
              alive = subst (λ (x : List Row). Alive (Has x) (h .segs)) (sym (place-contents (howOf sts) r h)) (alive-like (Has (contents (howOf sts) h)) (Has (add (howOf sts) r (contents (howOf sts) h))) (has-add (howOf sts) r (contents (howOf sts) h)) (h .segs) a);
              flows = subst (λ (x : List Row). Flows sts m es x (os ++ [])) (sym (place-contents (howOf sts) r h)) (subst (Flows sts m es (add (howOf sts) r (contents (howOf sts) h))) (sym (append-nil os)) w); next = refl; same = place-contents (howOf sts) r h }
-go-on sts m es f h os Gone i o n a w = record { held = h; is = refl; pages = i; order = o; none = n; alive = a; flows = subst (Flows sts m es (contents (howOf sts) h)) (sym (append-nil os)) w; next = refl; same = refl }
+go-on sts m es f h os Gone i o n l a w = record { held = h; is = refl; pages = i; order = o; none = n; lean = l; few = omega arith; alive = a; flows = subst (Flows sts m es (contents (howOf sts) h)) (sym (append-nil os)) w; next = refl; same = refl }
 
-stop : (sts : List Stage) (m : ℕ) (es : List Event) (f : Pages) (k : ℕ) (h : Held) (os : List Event) → HeldIn f h → Order h → h .source ≡ [] → Alive (Has (contents (howOf sts) h)) (h .segs) → Flows sts m es (contents (howOf sts) h) os → (Ended m (h .front) → 1 ≤ k → ⊥) → Emits sts m es f k h os (record { queue = queueOf h; outs = [] })
-stop sts m es f k h os i o n a w nay = record { held = h; is = refl; pages = i; order = o; none = n; alive = a; flows = subst (Flows sts m es (contents (howOf sts) h)) (sym (append-nil os)) w; next = refl; most = omega arith; less = λ x y. absurd (nay x y) }
+stop : (sts : List Stage) (m : ℕ) (es : List Event) (f : Pages) (k : ℕ) (h : Held) (os : List Event) → HeldIn f h → Order h → h .source ≡ [] → Lean h → Alive (Has (contents (howOf sts) h)) (h .segs) → Flows sts m es (contents (howOf sts) h) os → (Ended m (h .front) → 1 ≤ k → ⊥) → Emits sts m es f k h os (record { queue = queueOf h; outs = [] })
+stop sts m es f k h os i o n ln a w nay = record { held = h; is = refl; pages = i; order = o; none = n; lean = ln; few = omega arith; alive = a; flows = subst (Flows sts m es (contents (howOf sts) h)) (sym (append-nil os)) w; next = refl; most = omega arith; less = λ x y. absurd (nay x y) }
 
 abbrev Emitting : List Stage → ℕ → List Event → Pages → ℕ → (Queue → Emitted) → Type 0
-Emitting sts m es f k more = (h : Held) (os : List Event) → HeldIn f h → Order h → h .source ≡ [] → Alive (Has (contents (howOf sts) h)) (h .segs) → Flows sts m es (contents (howOf sts) h) os → Emits sts m es f k h os (more (queueOf h))
+Emitting sts m es f k more = (h : Held) (os : List Event) → HeldIn f h → Order h → h .source ≡ [] → Lean h → Alive (Has (contents (howOf sts) h)) (h .segs) → Flows sts m es (contents (howOf sts) h) os → Emits sts m es f k h os (more (queueOf h))
 
-emits-by : (sts : List Stage) (m : ℕ) (es : List Event) (f : Pages) (k : ℕ) (more : Queue → Emitted) → Sized sts → Emitting sts m es f k more → (h : Held) (os : List Event) (rs : List Row) → h .front ≡ rs → HeldIn f h → Order h → h .source ≡ [] → Alive (Has (contents (howOf sts) h)) (h .segs) → Flows sts m es (contents (howOf sts) h) os → Emits sts m es f (suc k) h os (emitBy sts m more rs (queueOf h))
+emits-by : (sts : List Stage) (m : ℕ) (es : List Event) (f : Pages) (k : ℕ) (more : Queue → Emitted) → Sized sts → Emitting sts m es f k more → (h : Held) (os : List Event) (rs : List Row) → h .front ≡ rs → HeldIn f h → Order h → h .source ≡ [] → Lean h → Alive (Has (contents (howOf sts) h)) (h .segs) → Flows sts m es (contents (howOf sts) h) os → Emits sts m es f (suc k) h os (emitBy sts m more rs (queueOf h))
 unfolding emitBy
-emits-by sts m es f k more z ih h os [] e i o n a w = stop sts m es f (suc k) h os i o n a w (λ x y. subst (Ended m) e x)
-emits-by sts m es f k more z ih h os (r ∷ rs) e i o n a w = go (leb (r .at .end) m) refl
+emits-by sts m es f k more z ih h os [] e i o n ln a w = stop sts m es f (suc k) h os i o n ln a w (λ x y. subst (Ended m) e x)
+emits-by sts m es f k more z ih h os (r ∷ rs) e i o n ln a w = go (leb (r .at .end) m) refl
   where
     how : ℕ → Sum
     how = howOf sts
@@ -203,7 +207,7 @@ emits-by sts m es f k more z ih h os (r ∷ rs) e i o n a w = go (leb (r .at .en
     joined : (t : Went sts m es f (popH rs h) (onward sts r) os ems) → Emits sts m es f k (t .held) (os ++ ems .outs) (more (queueOf (t .held))) → Emits sts m es f (suc k) h os (then' (ems .outs) (more (ems .queue)))
     joined t b =
         subst (λ (q : Queue). Emits sts m es f (suc k) h os (then' (ems .outs) (more q))) (sym (t .is))
-          (record { held = b .held; is = b .is; pages = b .pages; order = b .order; none = b .none; alive = b .alive; flows = subst (Flows sts m es (contents (howOf sts) (b .held))) (append-assoc os (ems .outs) (more (queueOf (t .held)) .outs)) (b .flows); next = b .next ∙ t .next;
+          (record { held = b .held; is = b .is; pages = b .pages; order = b .order; none = b .none; lean = b .lean; few = omega (arith, b .few, t .few, ap length e); alive = b .alive; flows = subst (Flows sts m es (contents (howOf sts) (b .held))) (append-assoc os (ems .outs) (more (queueOf (t .held)) .outs)) (b .flows); next = b .next ∙ t .next;
                     most = le; less = λ x y. lt })
       where
         lt : load (length sts) (contents (howOf sts) (b .held)) < load (length sts) (contents (howOf sts) h)
@@ -212,17 +216,17 @@ emits-by sts m es f k more z ih h os (r ∷ rs) e i o n a w = go (leb (r .at .en
         le = omega (arith, lt)
     go : (b : Bool) → leb (r .at .end) m ≡ b → Emits sts m es f (suc k) h os (cond b (then' (ems .outs) (more (ems .queue))) (record { queue = queueOf h; outs = [] }))
     go true l =
-        let t : Went sts m es f (popH rs h) (onward sts r) os ems = go-on sts m es f (popH rs h) os (onward sts r) i (pop-order h r rs e o) n alv (flows-pop (howOf sts) sts m es r (contents (howOf sts) (popH rs h)) os (fits sts z) (subst Sorted p (sorted-contents (howOf sts) h)) (leb-true (r .at .end) m l) fl) in
-        joined t (ih (t .held) (os ++ ems .outs) (t .pages) (t .order) (t .none) (t .alive) (t .flows))
-    go false l = stop sts m es f (suc k) h os i o n a w (λ x y. not-yet (subst (Ended m) e x))
+        let t : Went sts m es f (popH rs h) (onward sts r) os ems = go-on sts m es f (popH rs h) os (onward sts r) i (pop-order h r rs e o) n (record { segs = ln .segs; source = ln .source }) alv (flows-pop (howOf sts) sts m es r (contents (howOf sts) (popH rs h)) os (fits sts z) (subst Sorted p (sorted-contents (howOf sts) h)) (leb-true (r .at .end) m l) fl) in
+        joined t (ih (t .held) (os ++ ems .outs) (t .pages) (t .order) (t .none) (t .lean) (t .alive) (t .flows))
+    go false l = stop sts m es f (suc k) h os i o n ln a w (λ x y. not-yet (subst (Ended m) e x))
       where
         not-yet : r .at .end ≤ m → ⊥
         not-yet x = omega (arith, leb-false (r .at .end) m l)
 
 pub emits : (sts : List Stage) (m : ℕ) (es : List Event) (f : Pages) (k : ℕ) → Sized sts → Emitting sts m es f k (emit sts m k)
 unfolding emit
-emits sts m es f zero z h os i o n a w = stop sts m es f zero h os i o n a w (λ x y. omega arith)
-emits sts m es f (suc k) z h os i o n a w = emits-by sts m es f k (emit sts m k) z (emits sts m es f k z) h os (h .front) refl i o n a w
+emits sts m es f zero z h os i o n ln a w = stop sts m es f zero h os i o n ln a w (λ x y. omega arith)
+emits sts m es f (suc k) z h os i o n ln a w = emits-by sts m es f k (emit sts m k) z (emits sts m es f k z) h os (h .front) refl i o n ln a w
 
 -- WHAT A STEP THAT IS DUE MAY COUNT ON
 abbrev pub Ready : ℕ → Step → Queue → Type 0
@@ -323,15 +327,17 @@ record Advance (sts : List Stage) (m : ℕ) (es : List Event) (f : Pages) (h : H
   alive : Alive (Has (contents (howOf sts) held)) (held .segs)
   flows : Flows sts m es (contents (howOf sts) held) (os ++ d .outs)
   fresh : Fresh (h .next) (held .next) (d .writes)
+  lean : Lean held
+  few : rowsOf held ≤ rowsOf h
   falls : (load (length sts) (contents (howOf sts) held) < load (length sts) (contents (howOf sts) h)) ⊎ ((load (length sts) (contents (howOf sts) held) ≤ load (length sts) (contents (howOf sts) h)) × Falls (howOf sts) h held)
 
-kept-advance : (sts : List Stage) (m : ℕ) (es : List Event) (f : Pages) (h : Held) (os : List Event) (a : After) (src : List Paged) (below : Key → Type 0) (fst : ℕ) → Alive (Has (contents (howOf sts) h)) (h .segs) → Flows sts m es (contents (howOf sts) h) os →
+kept-advance : (sts : List Stage) (m : ℕ) (es : List Event) (f : Pages) (h : Held) (os : List Event) (a : After) (src : List Paged) (below : Key → Type 0) (fst : ℕ) → Lean h → Alive (Has (contents (howOf sts) h)) (h .segs) → Flows sts m es (contents (howOf sts) h) os →
     (k : Kept (howOf sts) f h a src below fst) → Falls (howOf sts) h (k .held) → Advance sts m es f h os (quiet a)
-kept-advance sts m es f h os a src below fst al w k fa =
+kept-advance sts m es f h os a src below fst ln al w k fa =
     record { held = k .held; is = k .is; pages = k .pages; order = k .order;
              alive = subst (λ (x : List Row). Alive (Has x) (k .held .segs)) (sym (k .same)) (k .live (Has (contents (howOf sts) h)) (each-has (contents (howOf sts) h)) al);
              flows = subst (λ (x : List Row). Flows sts m es x (os ++ [])) (sym (k .same)) (subst (Flows sts m es (contents (howOf sts) h)) (sym (append-nil os)) w);
-             fresh = k .fresh; falls = inr (omega (arith, ap (load (length sts)) (k .same)), fa) }
+             fresh = k .fresh; lean = k .lean ln; few = k .few; falls = inr (omega (arith, ap (load (length sts)) (k .same)), fa) }
 
 kept-weigh : (how : ℕ → Sum) (f : Pages) (h : Held) (a : After) (src : List Paged) (below : Key → Type 0) (fst : ℕ) → (k : Kept how f h a src below fst) → weigh (k .held) ≡ weighQ (a .queue) src
 kept-weigh how f h a src below fst k = ap (λ (q : Queue). weighQ q (k .held .source)) (sym (k .is)) ∙ ap (weighQ (a .queue)) (k .source)
@@ -342,18 +348,18 @@ kept-rank how f h a src k (suc p) (inl x) = inl (x .0, subst (λ (z : List Row).
 kept-rank how f h a src k (suc p) (inr x) = inr (omega (arith, k .level))
 
 -- a step that tidies
-tidy : (sts : List Stage) (m : ℕ) (es : List Event) (f : Pages) (h : Held) (os : List Event) (a : After) (src : List Paged) → Alive (Has (contents (howOf sts) h)) (h .segs) → Flows sts m es (contents (howOf sts) h) os →
+tidy : (sts : List Stage) (m : ℕ) (es : List Event) (f : Pages) (h : Held) (os : List Event) (a : After) (src : List Paged) → Lean h → Alive (Has (contents (howOf sts) h)) (h .segs) → Flows sts m es (contents (howOf sts) h) os →
     Kept (howOf sts) f h a src (Under (h .segs)) (levelOf (h .segs)) → weighQ (a .queue) src < weigh h → Advance sts m es f h os (quiet a)
-tidy sts m es f h os a src al w k l =
-    kept-advance sts m es f h os a src (Under (h .segs)) (levelOf (h .segs)) al w k (λ p r. inl (kept-rank (howOf sts) f h a src k p r, omega (arith, l, kept-weigh (howOf sts) f h a src (Under (h .segs)) (levelOf (h .segs)) k)))
+tidy sts m es f h os a src ln al w k l =
+    kept-advance sts m es f h os a src (Under (h .segs)) (levelOf (h .segs)) ln al w k (λ p r. inl (kept-rank (howOf sts) f h a src k p r, omega (arith, l, kept-weigh (howOf sts) f h a src (Under (h .segs)) (levelOf (h .segs)) k)))
 
 -- SPILL
 picks-some : (n : ℕ) (g : Key → Bool) (rs : List Row) → 1 ≤ n → 1 ≤ Rattle.book.specs.Due.count g rs → 1 ≤ length (pick n g rs)
 picks-some zero g rs l c = absurd (omega arith)
 picks-some (suc n) g rs l c = picks n g rs c
 
-adv-spill : (z : Sizes) → SizesOk z → (sts : List Stage) (m : ℕ) (es : List Event) (f : Pages) (h : Held) (os : List Event) (i : ℕ) → Ready m (Spill i) (queueOf h) → HeldIn f h → Order h → Alive (Has (contents (howOf sts) h)) (h .segs) → Flows sts m es (contents (howOf sts) h) os → Advance sts m es f h os (do' z sts m (Spill i) (pageOf f (shows (Spill i) (queueOf h))) (queueOf h))
-adv-spill z zo sts m es f h os i r hh o al w = tidy sts m es f h os (spill (howOf sts) (z .rows) i (pageOf f (headAt i (heads (h .segs)))) (queueOf h)) (h .source) al w (spill-keeps (howOf sts) (z .rows) f i h (zo .1) hh o)
+adv-spill : (z : Sizes) → SizesOk z → (sts : List Stage) (m : ℕ) (es : List Event) (f : Pages) (h : Held) (os : List Event) (i : ℕ) → Ready m (Spill i) (queueOf h) → HeldIn f h → Order h → Lean h → Alive (Has (contents (howOf sts) h)) (h .segs) → Flows sts m es (contents (howOf sts) h) os → Advance sts m es f h os (do' z sts m (Spill i) (pageOf f (shows (Spill i) (queueOf h))) (queueOf h))
+adv-spill z zo sts m es f h os i r hh o ln al w = tidy sts m es f h os (spill (howOf sts) (z .rows) i (pageOf f (headAt i (heads (h .segs)))) (queueOf h)) (h .source) ln al w (spill-keeps (howOf sts) (z .rows) f i h some (zo .1) hh o)
     (omega (arith, length-pick (z .rows) (isOf i (heads (h .segs))) (h .buffer), some, spilled-more (howOf sts) (z .rows) (h .next) (pageOf f (headAt i (heads (h .segs)))) i (heads (h .segs)) (pick (z .rows) (isOf i (heads (h .segs))) (h .buffer))))
   where
     some : 1 ≤ length (pick (z .rows) (isOf i (heads (h .segs))) (h .buffer))
@@ -372,8 +378,8 @@ lower-low how h (x ∷ xs) (y ∷ ys) e o lx ly =
     (x .at, Rattle.book.proofs.Lists.each-left (Has (contents how h)) (x ∷ xs) (y ∷ ys) (subst (Each (Has (contents how h))) (sym e) (Rattle.book.proofs.Lists.each-onto-inv (Has (contents how h)) how (h .front) (onto how (h .buffer) (onto how (under (h .segs)) (onto how (chainRows (h .source)) []))) (each-has (contents how h)) .0)) .0,
      sorted-mid (x ∷ xs) y ys (subst Sorted (sym e) (o .front)) .0)
 
-adv-lower : (z : Sizes) (sts : List Stage) (m : ℕ) (es : List Event) (f : Pages) (h : Held) (os : List Event) → Ready m Lower (queueOf h) → HeldIn f h → Order h → Alive (Has (contents (howOf sts) h)) (h .segs) → Flows sts m es (contents (howOf sts) h) os → Advance sts m es f h os (do' z sts m Lower Blank (queueOf h))
-adv-lower z sts m es f h os r hh o al w = done (lower-keeps (howOf sts) f n h hh o)
+adv-lower : (z : Sizes) (sts : List Stage) (m : ℕ) (es : List Event) (f : Pages) (h : Held) (os : List Event) → Ready m Lower (queueOf h) → HeldIn f h → Order h → Lean h → Alive (Has (contents (howOf sts) h)) (h .segs) → Flows sts m es (contents (howOf sts) h) os → Advance sts m es f h os (do' z sts m Lower Blank (queueOf h))
+adv-lower z sts m es f h os r hh o ln al w = done (lower-keeps (howOf sts) f n h hh o)
   where
     n : ℕ
     n = length (h .front) / 2
@@ -388,7 +394,7 @@ adv-lower z sts m es f h os r hh o al w = done (lower-keeps (howOf sts) f n h hh
     both : length xs + length ys ≡ length (h .front)
     both = omega (arith, length-take n (h .front), length-drop n (h .front))
     done : Kept (howOf sts) f h (lower (howOf sts) n (queueOf h)) (h .source) (belowOf ys h) (levelOf (h .segs)) → Advance sts m es f h os (quiet (lower (howOf sts) n (queueOf h)))
-    done k = kept-advance sts m es f h os (lower (howOf sts) n (queueOf h)) (h .source) (belowOf ys h) (levelOf (h .segs)) al w k (λ p x. inl (rank-low (howOf sts) p (k .held) low, omega (arith, lower-weigh (howOf sts) xs ys (queueOf h) (h .source) ly both, kept-weigh (howOf sts) f h (lower (howOf sts) n (queueOf h)) (h .source) (belowOf ys h) (levelOf (h .segs)) k)))
+    done k = kept-advance sts m es f h os (lower (howOf sts) n (queueOf h)) (h .source) (belowOf ys h) (levelOf (h .segs)) ln al w k (λ p x. inl (rank-low (howOf sts) p (k .held) low, omega (arith, lower-weigh (howOf sts) xs ys (queueOf h) (h .source) ly both, kept-weigh (howOf sts) f h (lower (howOf sts) n (queueOf h)) (h .source) (belowOf ys h) (levelOf (h .segs)) k)))
       where
         b : (x : Key) × Has (contents (howOf sts) h) x × belowOf ys h x
         b = lower-low (howOf sts) h xs ys (take-append-drop n (h .front)) o lx ly
@@ -406,18 +412,19 @@ unfolding packBy
 pack-weigh xs [] us q src l e = absurd (omega arith)
 pack-weigh xs (y ∷ ys) us q src l e = omega (arith, length-append xs (record { low = y .low; index = page (q .next); head = nil; level = suc (y .level) } ∷ us))
 
-adv-pack : (z : Sizes) (sts : List Stage) (m : ℕ) (es : List Event) (f : Pages) (h : Held) (os : List Event) (v : ℕ) → Ready m (Pack v) (queueOf h) → HeldIn f h → Order h → Alive (Has (contents (howOf sts) h)) (h .segs) → Flows sts m es (contents (howOf sts) h) os → Advance sts m es f h os (do' z sts m (Pack v) Blank (queueOf h))
-adv-pack z sts m es f h os v r hh o al w = go (belowLevel v ss + atLevel v ss / 2) (lessBy (atLevel v ss / 2) (atLevel v ss)) (omega (arith, r)) (omega (arith, r, lessBy-is (atLevel v ss / 2) (atLevel v ss))) (omega (arith, levels-apart v ss, lessBy-is (atLevel v ss / 2) (atLevel v ss)))
+adv-pack : (z : Sizes) (sts : List Stage) (m : ℕ) (es : List Event) (f : Pages) (h : Held) (os : List Event) (v : ℕ) → Ready m (Pack v) (queueOf h) → HeldIn f h → Order h → Lean h → Alive (Has (contents (howOf sts) h)) (h .segs) → Flows sts m es (contents (howOf sts) h) os → Advance sts m es f h os (do' z sts m (Pack v) Blank (queueOf h))
+adv-pack z sts m es f h os v r hh o ln al w = go (belowLevel v ss + atLevel v ss / 2) (lessBy (atLevel v ss / 2) (atLevel v ss)) (omega (arith, r)) (omega (arith, r, lessBy-is (atLevel v ss / 2) (atLevel v ss))) (omega (arith, levels-apart v ss, lessBy-is (atLevel v ss / 2) (atLevel v ss)))
   where
     ss : List Seg
     ss = heads (h .segs)
     go : (i k : ℕ) → 1 ≤ i → 2 ≤ k → i + k ≤ length ss → Advance sts m es f h os (quiet (pack i k (queueOf h)))
     go zero k a b c = absurd (omega (arith, a))
     go (suc i) zero a b c = absurd (omega (arith, b))
-    go (suc i) (suc k) a b c = tidy sts m es f h os (pack (suc i) (suc k) (queueOf h)) (h .source) al w (pack-keeps (howOf sts) f i k h hh o)
-      (pack-weigh (take (suc i) ss) (take (suc k) (drop (suc i) ss)) (drop (suc k) (drop (suc i) ss)) (queueOf h) (h .source)
-        (omega (arith, b, c, length-take (suc k) (drop (suc i) ss), length-drop (suc i) ss))
-        (omega (arith, c, length-take (suc i) ss, length-take (suc k) (drop (suc i) ss), length-drop (suc k) (drop (suc i) ss), length-drop (suc i) ss)))
+    go (suc i) (suc zero) a b c = absurd (omega (arith, b))
+    go (suc i) (suc (suc k)) a b c = tidy sts m es f h os (pack (suc i) (suc (suc k)) (queueOf h)) (h .source) ln al w (pack-keeps (howOf sts) f i k h (omega (arith, c)) hh o)
+      (pack-weigh (take (suc i) ss) (take (suc (suc k)) (drop (suc i) ss)) (drop (suc (suc k)) (drop (suc i) ss)) (queueOf h) (h .source)
+        (omega (arith, b, c, length-take (suc (suc k)) (drop (suc i) ss), length-drop (suc i) ss))
+        (omega (arith, c, length-take (suc i) ss, length-take (suc (suc k)) (drop (suc i) ss), length-drop (suc (suc k)) (drop (suc i) ss), length-drop (suc i) ss)))
 
 -- SIFT
 no-source : (c : List Paged) → headOf c ≡ nil → c ≡ []
@@ -437,11 +444,11 @@ sift-weigh how f h p ps e v = omega (arith, places-weight how (p .rows) g, ap le
 abbrev Adv : Sizes → List Stage → ℕ → List Event → Pages → Held → List Event → Step → Type 0
 Adv z sts m es f h os step = Advance sts m es f h os (do' z sts m step (pageOf f (shows step (queueOf h))) (queueOf h))
 
-adv-sift : (z : Sizes) (sts : List Stage) (m : ℕ) (es : List Event) (f : Pages) (h : Held) (os : List Event) (c : List Paged) → h .source ≡ c → Ready m Sift (queueOf h) → HeldIn f h → Order h → Alive (Has (contents (howOf sts) h)) (h .segs) → Flows sts m es (contents (howOf sts) h) os → Adv z sts m es f h os Sift
-adv-sift z sts m es f h os [] e r i o al w = nil-page (Adv z sts m es f h os Sift) (r .0) (ap headOf (sym e) ∙ r .1)
-adv-sift z sts m es f h os (p ∷ ps) e r i o al w =
+adv-sift : (z : Sizes) (sts : List Stage) (m : ℕ) (es : List Event) (f : Pages) (h : Held) (os : List Event) (c : List Paged) → h .source ≡ c → Ready m Sift (queueOf h) → HeldIn f h → Order h → Lean h → Alive (Has (contents (howOf sts) h)) (h .segs) → Flows sts m es (contents (howOf sts) h) os → Adv z sts m es f h os Sift
+adv-sift z sts m es f h os [] e r i o ln al w = nil-page (Adv z sts m es f h os Sift) (r .0) (ap headOf (sym e) ∙ r .1)
+adv-sift z sts m es f h os (p ∷ ps) e r i o ln al w =
     subst (λ (x : Link). Advance sts m es f h os (quiet (sift (howOf sts) (pageOf f x) (queueOf h)))) (ap headOf (sym e))
-      (tidy sts m es f h os (sift (howOf sts) (f (p .number)) (queueOf h)) ps al w (sift-keeps (howOf sts) f h p ps e i o) (sift-weigh (howOf sts) f h p ps e (subst (ChainIn f (h .next)) e (i .1) .1)))
+      (tidy sts m es f h os (sift (howOf sts) (f (p .number)) (queueOf h)) ps ln al w (sift-keeps (howOf sts) f h p ps e i o) (sift-weigh (howOf sts) f h p ps e (subst (ChainIn f (h .next)) e (i .1) .1)))
 
 -- OPEN AND UNPACK are due only where no row is below the first low
 no-low : (how : ℕ → Sum) (h : Held) → Order h → h .front ≡ [] → h .source ≡ [] → Low how h → ⊥
@@ -454,14 +461,14 @@ no-low how h o e n l = bef-self (l .0) (has-each (Bef (l .0)) (contents how h) (
     after = each-onto (Bef (l .0)) how (h .buffer) (onto how (under (h .segs)) (onto how (chainRows (h .source)) [])) (each-like (Over (h .segs)) (Bef (l .0)) (λ k. over-after (h .segs) (l .0) k (l .2)) (h .buffer) (o .above))
       (each-onto (Bef (l .0)) how (under (h .segs)) (onto how (chainRows (h .source)) []) (segs-after Free (h .segs) (l .0) (o .segs) (l .2)) (subst (λ (c : List Paged). Each (Bef (l .0)) (onto how (chainRows c) [])) (sym n) tt))
 
-adv-open : (z : Sizes) (sts : List Stage) (m : ℕ) (es : List Event) (f : Pages) (h : Held) (os : List Event) (ss : Segs) → h .segs ≡ ss → Ready m Open (queueOf h) → HeldIn f h → Order h → Alive (Has (contents (howOf sts) h)) (h .segs) → Flows sts m es (contents (howOf sts) h) os → Adv z sts m es f h os Open
-adv-open z sts m es f h os none e r i o al w = absurd (let q : heads none ≡ r .2 ∷ r .3 = ap heads (sym e) ∙ r .4 in let k : _≡_ {A = ℕ} 0 1 = cc in omega arith)
-adv-open z sts m es f h os (packed low n inner c ss) e r i o al w =
+adv-open : (z : Sizes) (sts : List Stage) (m : ℕ) (es : List Event) (f : Pages) (h : Held) (os : List Event) (ss : Segs) → h .segs ≡ ss → Ready m Open (queueOf h) → HeldIn f h → Order h → Lean h → Alive (Has (contents (howOf sts) h)) (h .segs) → Flows sts m es (contents (howOf sts) h) os → Adv z sts m es f h os Open
+adv-open z sts m es f h os none e r i o ln al w = absurd (let q : heads none ≡ r .2 ∷ r .3 = ap heads (sym e) ∙ r .4 in let k : _≡_ {A = ℕ} 0 1 = cc in omega arith)
+adv-open z sts m es f h os (packed low n inner c ss) e r i o ln al w =
     nil-page (Adv z sts m es f h os Open) n (sym (let q : heads (packed low n inner c ss) ≡ r .2 ∷ r .3 = ap heads (sym e) ∙ r .4 in let j : record { low = low; index = page n; head = headOf c; level = suc (levelOf inner) } ≡ r .2 = cc in ap (λ (x : Seg). x .index) j ∙ r .5))
-adv-open z sts m es f h os (plain low c ss) e r i o al w = done (open-keeps (howOf sts) f h low c ss e (no-source (h .source) (r .0)) i o)
+adv-open z sts m es f h os (plain low c ss) e r i o ln al w = done (open-keeps (howOf sts) f h low c ss e (no-source (h .source) (r .0)) i o)
   where
     done : Kept (howOf sts) f h (open' (howOf sts) (queueOf h)) c (Under ss) (levelOf ss) → Advance sts m es f h os (quiet (open' (howOf sts) (queueOf h)))
-    done k = kept-advance sts m es f h os (open' (howOf sts) (queueOf h)) c (Under ss) (levelOf ss) al w k fa
+    done k = kept-advance sts m es f h os (open' (howOf sts) (queueOf h)) c (Under ss) (levelOf ss) ln al w k fa
       where
         lowest : Low (howOf sts) (k .held)
         lowest = (low, subst (λ (x : List Row). Has x low) (sym (k .same)) (subst (Alive (Has (contents (howOf sts) h))) e al .0), k .low low (subst (SegsOk Free) e (o .segs) .1))
@@ -469,15 +476,15 @@ adv-open z sts m es f h os (plain low c ss) e r i o al w = done (open-keeps (how
         fa zero x = absurd (no-low (howOf sts) h o (r .1) (no-source (h .source) (r .0)) x)
         fa (suc p) x = inr (p, refl, rank-low (howOf sts) p (k .held) lowest)
 
-adv-unpack : (z : Sizes) (sts : List Stage) (m : ℕ) (es : List Event) (f : Pages) (h : Held) (os : List Event) (ss : Segs) → h .segs ≡ ss → Ready m Unpack (queueOf h) → HeldIn f h → Order h → Alive (Has (contents (howOf sts) h)) (h .segs) → Flows sts m es (contents (howOf sts) h) os → Adv z sts m es f h os Unpack
+adv-unpack : (z : Sizes) (sts : List Stage) (m : ℕ) (es : List Event) (f : Pages) (h : Held) (os : List Event) (ss : Segs) → h .segs ≡ ss → Ready m Unpack (queueOf h) → HeldIn f h → Order h → Lean h → Alive (Has (contents (howOf sts) h)) (h .segs) → Flows sts m es (contents (howOf sts) h) os → Adv z sts m es f h os Unpack
 unfolding indexOf
-adv-unpack z sts m es f h os none e r i o al w = nil-page (Adv z sts m es f h os Unpack) (r .2) (ap (λ (x : Segs). indexOf (heads x)) (sym e) ∙ r .3)
-adv-unpack z sts m es f h os (plain low c ss) e r i o al w = nil-page (Adv z sts m es f h os Unpack) (r .2) (ap (λ (x : Segs). indexOf (heads x)) (sym e) ∙ r .3)
-adv-unpack z sts m es f h os (packed low n inner c ss) e r i o al w =
+adv-unpack z sts m es f h os none e r i o ln al w = nil-page (Adv z sts m es f h os Unpack) (r .2) (ap (λ (x : Segs). indexOf (heads x)) (sym e) ∙ r .3)
+adv-unpack z sts m es f h os (plain low c ss) e r i o ln al w = nil-page (Adv z sts m es f h os Unpack) (r .2) (ap (λ (x : Segs). indexOf (heads x)) (sym e) ∙ r .3)
+adv-unpack z sts m es f h os (packed low n inner c ss) e r i o ln al w =
     subst (λ (x : Link). Advance sts m es f h os (quiet (unpack (pageOf f x) (queueOf h)))) (ap (λ (x : Segs). indexOf (heads x)) (sym e)) (done (unpack-keeps (howOf sts) f h low n inner c ss e (no-source (h .source) (r .0)) i o))
   where
     done : Kept (howOf sts) f h (unpack (f n) (queueOf h)) c (Under (appendS inner ss)) (levelOf inner) → Advance sts m es f h os (quiet (unpack (f n) (queueOf h)))
-    done k = kept-advance sts m es f h os (unpack (f n) (queueOf h)) c (Under (appendS inner ss)) (levelOf inner) al w k fa
+    done k = kept-advance sts m es f h os (unpack (f n) (queueOf h)) c (Under (appendS inner ss)) (levelOf inner) ln al w k fa
       where
         fa : Falls (howOf sts) h (k .held)
         fa zero x = absurd (no-low (howOf sts) h o (r .1) (no-source (h .source) (r .0)) x)
@@ -488,29 +495,29 @@ adv-unpack z sts m es f h os (packed low n inner c ss) e r i o al w =
 -- EMIT
 adv-emit : (z : Sizes) → SizesOk z → (sts : List Stage) (m : ℕ) (es : List Event) (f : Pages) (h : Held) (os : List Event) → Ready m Emit (queueOf h) → Emits sts m es f (z .emits) h os (emit sts m (z .emits) (queueOf h)) → Adv z sts m es f h os Emit
 unfolding written
-adv-emit z zo sts m es f h os r k = record { held = k .held; is = k .is; pages = k .pages; order = k .order; alive = k .alive; flows = k .flows; fresh = omega (arith, k .next); falls = inl (k .less (r .1) (zo .3)) }
+adv-emit z zo sts m es f h os r k = record { held = k .held; is = k .is; pages = k .pages; order = k .order; alive = k .alive; flows = k .flows; fresh = omega (arith, k .next); lean = k .lean; few = k .few; falls = inl (k .less (r .1) (zo .3)) }
 
-advance : (z : Sizes) → SizesOk z → (sts : List Stage) → Sized sts → (m : ℕ) (es : List Event) (f : Pages) (h : Held) (os : List Event) (step : Step) → Ready m step (queueOf h) → HeldIn f h → Order h → Alive (Has (contents (howOf sts) h)) (h .segs) → Flows sts m es (contents (howOf sts) h) os → Adv z sts m es f h os step
-advance z zo sts sz m es f h os (Spill k) r i o al w = adv-spill z zo sts m es f h os k r i o al w
-advance z zo sts sz m es f h os Lower r i o al w = adv-lower z sts m es f h os r i o al w
-advance z zo sts sz m es f h os (Pack v) r i o al w = adv-pack z sts m es f h os v r i o al w
-advance z zo sts sz m es f h os Sift r i o al w = adv-sift z sts m es f h os (h .source) refl r i o al w
-advance z zo sts sz m es f h os Emit r i o al w = adv-emit z zo sts m es f h os r (emits sts m es f (z .emits) sz h os i o (no-source (h .source) (r .0)) al w)
-advance z zo sts sz m es f h os Unpack r i o al w = adv-unpack z sts m es f h os (h .segs) refl r i o al w
-advance z zo sts sz m es f h os Open r i o al w = adv-open z sts m es f h os (h .segs) refl r i o al w
+advance : (z : Sizes) → SizesOk z → (sts : List Stage) → Sized sts → (m : ℕ) (es : List Event) (f : Pages) (h : Held) (os : List Event) (step : Step) → Ready m step (queueOf h) → HeldIn f h → Order h → Lean h → Alive (Has (contents (howOf sts) h)) (h .segs) → Flows sts m es (contents (howOf sts) h) os → Adv z sts m es f h os step
+advance z zo sts sz m es f h os (Spill k) r i o ln al w = adv-spill z zo sts m es f h os k r i o ln al w
+advance z zo sts sz m es f h os Lower r i o ln al w = adv-lower z sts m es f h os r i o ln al w
+advance z zo sts sz m es f h os (Pack v) r i o ln al w = adv-pack z sts m es f h os v r i o ln al w
+advance z zo sts sz m es f h os Sift r i o ln al w = adv-sift z sts m es f h os (h .source) refl r i o ln al w
+advance z zo sts sz m es f h os Emit r i o ln al w = adv-emit z zo sts m es f h os r (emits sts m es f (z .emits) sz h os i o (no-source (h .source) (r .0)) ln al w)
+advance z zo sts sz m es f h os Unpack r i o ln al w = adv-unpack z sts m es f h os (h .segs) refl r i o ln al w
+advance z zo sts sz m es f h os Open r i o ln al w = adv-open z sts m es f h os (h .segs) refl r i o ln al w
 
 -- DONE
 abbrev Goal : Sizes → List Stage → ℕ → List Event → Pages → Queue → List Event → Step → Type 0
 Goal z sts m es f q os step = (d : Done) × (d ≡ do' z sts m step (pageOf f (shows step q)) q) × Sound sts m es (written (d .writes) f) (d .queue) (os ++ d .outs) × Fresh (q .next) (d .queue .next) (d .writes)
 
-advanced : (z : Sizes) (sts : List Stage) (m : ℕ) (es : List Event) (f : Pages) (h : Held) (os : List Event) (step : Step) → Adv z sts m es f h os step → Goal z sts m es f (queueOf h) os step
-advanced z sts m es f h os step a =
-    (do' z sts m step (pageOf f (shows step (queueOf h))) (queueOf h), refl, record { held = a .held; is = a .is; pages = a .pages; order = a .order; alive = a .alive; flows = a .flows },
+advanced : (z : Sizes) (sts : List Stage) (m : ℕ) (es : List Event) (f : Pages) (h : Held) (os : List Event) (step : Step) → rowsOf h ≤ length es → Adv z sts m es f h os step → Goal z sts m es f (queueOf h) os step
+advanced z sts m es f h os step few a =
+    (do' z sts m step (pageOf f (shows step (queueOf h))) (queueOf h), refl, record { held = a .held; is = a .is; pages = a .pages; order = a .order; alive = a .alive; lean = a .lean; few = omega (arith, few, a .few); flows = a .flows },
      subst (λ (n : ℕ). Fresh (h .next) n (do' z sts m step (pageOf f (shows step (queueOf h))) (queueOf h) .writes)) (ap (λ (q : Queue). q .next) (sym (a .is))) (a .fresh))
 
 pub sound-done : SoundDone
 sound-done z zo sts sz m es f q os step s e =
-    subst (λ (x : Queue). Goal z sts m es f x os step) (sym (s .is)) (advanced z sts m es f (s .held) os step (advance z zo sts sz m es f (s .held) os step (ready z zo m (queueOf (s .held)) step (subst (λ (x : Queue). due z m x ≡ Do step) (s .is) e)) (s .pages) (s .order) (s .alive) (s .flows)))
+    subst (λ (x : Queue). Goal z sts m es f x os step) (sym (s .is)) (advanced z sts m es f (s .held) os step (s .few) (advance z zo sts sz m es f (s .held) os step (ready z zo m (queueOf (s .held)) step (subst (λ (x : Queue). due z m x ≡ Do step) (s .is) e)) (s .pages) (s .order) (s .lean) (s .alive) (s .flows)))
 
 -- NOTHING DUE
 abbrev Rests : ℕ → Queue → Type 0
@@ -590,10 +597,10 @@ all-came-out z sts m es f q os s e = flows-done sts m es (contents (howOf sts) (
 
 pub sound-at-first : SoundAtFirst
 unfolding onto
-sound-at-first sts m f = record { held = record { front = []; buffer = []; segs = none; source = []; next = 0 }; is = refl; pages = (tt, tt); order = record { front = tt; buffer = tt; below = tt; above = tt; segs = tt }; alive = tt; flows = flows-first sts m }
+sound-at-first sts m f = record { held = record { front = []; buffer = []; segs = none; source = []; next = 0 }; is = refl; pages = (tt, tt); order = record { front = tt; buffer = tt; below = tt; above = tt; segs = tt }; alive = tt; lean = record { segs = tt; source = tt }; few = omega arith; flows = flows-first sts m }
 
 pub sound-later : SoundLater
-sound-later sts m n es f q os l s = record { held = s .held; is = s .is; pages = s .pages; order = s .order; alive = s .alive; flows = flows-later sts m n es (contents (howOf sts) (s .held)) os l (s .flows) }
+sound-later sts m n es f q os l s = record { held = s .held; is = s .is; pages = s .pages; order = s .order; alive = s .alive; lean = s .lean; few = s .few; flows = flows-later sts m n es (contents (howOf sts) (s .held)) os l (s .flows) }
 
 pub sound-taken : SoundTaken
 unfolding take'
@@ -603,26 +610,26 @@ sound-taken (st ∷ sts) z l m es e f q os t s = go (eqb (word (st .keep') e) 0)
     how : ℕ → Sum
     how = howOf (st ∷ sts)
     go : (b : Bool) → Flows (st ∷ sts) m (e ∷ es) (cond b (contents how (s .held)) (add how (rowOf st 0 e) (contents how (s .held)))) os → Sound (st ∷ sts) m (e ∷ es) f (cond b q (place how (rowOf st 0 e) q)) os
-    go true w = record { held = s .held; is = s .is; pages = s .pages; order = s .order; alive = s .alive; flows = w }
-    go false w = record { held = placeH how (rowOf st 0 e) (s .held); is = ap (place how (rowOf st 0 e)) (s .is) ∙ place-is how (rowOf st 0 e) (s .held); pages = s .pages; order = place-order how (rowOf st 0 e) (s .held) (s .order); alive = subst (λ (x : List Row). Alive (Has x) (s .held .segs)) (sym (place-contents how (rowOf st 0 e) (s .held))) (alive-like (Has (contents how (s .held))) (Has (add how (rowOf st 0 e) (contents how (s .held)))) (has-add how (rowOf st 0 e) (contents how (s .held))) (s .held .segs) (s .alive)); flows = subst (λ (x : List Row). Flows (st ∷ sts) m (e ∷ es) x os) (sym (place-contents how (rowOf st 0 e) (s .held))) w }
+    go true w = record { held = s .held; is = s .is; pages = s .pages; order = s .order; alive = s .alive; lean = s .lean; few = omega (arith, s .few); flows = w }
+    go false w = record { held = placeH how (rowOf st 0 e) (s .held); is = ap (place how (rowOf st 0 e)) (s .is) ∙ place-is how (rowOf st 0 e) (s .held); pages = s .pages; order = place-order how (rowOf st 0 e) (s .held) (s .order); alive = subst (λ (x : List Row). Alive (Has x) (s .held .segs)) (sym (place-contents how (rowOf st 0 e) (s .held))) (alive-like (Has (contents how (s .held))) (Has (add how (rowOf st 0 e) (contents how (s .held)))) (has-add how (rowOf st 0 e) (contents how (s .held))) (s .held .segs) (s .alive)); lean = record { segs = s .lean .segs; source = s .lean .source }; few = omega (arith, s .few, place-few how (rowOf st 0 e) (s .held)); flows = subst (λ (x : List Row). Flows (st ∷ sts) m (e ∷ es) x os) (sym (place-contents how (rowOf st 0 e) (s .held))) w }
 
 -- IT COMES TO REST: by what is left to let go; then by the rank; then by the weight
 abbrev Comes : Sizes → List Stage → ℕ → List Event → Pages → Queue → List Event → Type 0
 Comes z sts m es f q os = (more : List Event) × Runs z sts m f q more × (os ++ more ≡ throughAll sts m es)
 
 abbrev Ends : Sizes → List Stage → ℕ → List Event → (Held → Type 0) → Type 0
-Ends z sts m es C = (f : Pages) (h : Held) (os : List Event) → HeldIn f h → Order h → Alive (Has (contents (howOf sts) h)) (h .segs) → Flows sts m es (contents (howOf sts) h) os → C h → Comes z sts m es f (queueOf h) os
+Ends z sts m es C = (f : Pages) (h : Held) (os : List Event) → HeldIn f h → Order h → Lean h → rowsOf h ≤ length es → Alive (Has (contents (howOf sts) h)) (h .segs) → Flows sts m es (contents (howOf sts) h) os → C h → Comes z sts m es f (queueOf h) os
 
 abbrev left-of : List Stage → Held → ℕ
 left-of sts h = load (length sts) (contents (howOf sts) h)
 
 step-on : (z : Sizes) → SizesOk z → (sts : List Stage) → Sized sts → (m : ℕ) (es : List Event) (l p v : ℕ) → Ends z sts m es (λ g. left-of sts g < l) → ((q : ℕ) → suc q ≡ p → Ends z sts m es (λ g. (left-of sts g ≤ l) × Rank (howOf sts) q g)) → Ends z sts m es (λ g. (left-of sts g ≤ l) × Rank (howOf sts) p g × (weigh g < v)) →
     Ends z sts m es (λ g. (left-of sts g ≤ l) × Rank (howOf sts) p g × (weigh g ≤ v))
-step-on z zo sts sz m es l p v il ip iw f h os hh o al w c = go (due z m (queueOf h)) refl
+step-on z zo sts sz m es l p v il ip iw f h os hh o ln fw al w c = go (due z m (queueOf h)) refl
   where
     go : (d : Due) → due z m (queueOf h) ≡ d → Comes z sts m es f (queueOf h) os
-    go Nothing e = ([], rests e, append-nil os ∙ all-came-out z sts m es f (queueOf h) os (record { held = h; is = refl; pages = hh; order = o; alive = al; flows = w }) e)
-    go (Do step) e = on (advance z zo sts sz m es f h os step (ready z zo m (queueOf h) step e) hh o al w)
+    go Nothing e = ([], rests e, append-nil os ∙ all-came-out z sts m es f (queueOf h) os (record { held = h; is = refl; pages = hh; order = o; alive = al; lean = ln; few = fw; flows = w }) e)
+    go (Do step) e = on (advance z zo sts sz m es f h os step (ready z zo m (queueOf h) step e) hh o ln al w)
       where
         d : Done
         d = do' z sts m step (pageOf f (shows step (queueOf h))) (queueOf h)
@@ -632,27 +639,27 @@ step-on z zo sts sz m es l p v il ip iw f h os hh o al w c = go (due z m (queueO
         on a = back a (by (a .falls))
           where
             by2 : left-of sts (a .held) ≤ left-of sts h → (Rank (howOf sts) p (a .held) × (weigh (a .held) < weigh h)) ⊎ ((q : ℕ) × (suc q ≡ p) × Rank (howOf sts) q (a .held)) → Comes z sts m es (written (d .writes) f) (queueOf (a .held)) (os ++ d .outs)
-            by2 t (inl x) = iw (written (d .writes) f) (a .held) (os ++ d .outs) (a .pages) (a .order) (a .alive) (a .flows) (omega (arith, c .0, t), x .0, omega (arith, c .2, x .1))
-            by2 t (inr x) = ip (x .0) (x .1) (written (d .writes) f) (a .held) (os ++ d .outs) (a .pages) (a .order) (a .alive) (a .flows) (omega (arith, c .0, t), x .2)
+            by2 t (inl x) = iw (written (d .writes) f) (a .held) (os ++ d .outs) (a .pages) (a .order) (a .lean) (omega (arith, fw, a .few)) (a .alive) (a .flows) (omega (arith, c .0, t), x .0, omega (arith, c .2, x .1))
+            by2 t (inr x) = ip (x .0) (x .1) (written (d .writes) f) (a .held) (os ++ d .outs) (a .pages) (a .order) (a .lean) (omega (arith, fw, a .few)) (a .alive) (a .flows) (omega (arith, c .0, t), x .2)
             by : (left-of sts (a .held) < left-of sts h) ⊎ ((left-of sts (a .held) ≤ left-of sts h) × Falls (howOf sts) h (a .held)) → Comes z sts m es (written (d .writes) f) (queueOf (a .held)) (os ++ d .outs)
-            by (inl t) = il (written (d .writes) f) (a .held) (os ++ d .outs) (a .pages) (a .order) (a .alive) (a .flows) (omega (arith, c .0, t))
+            by (inl t) = il (written (d .writes) f) (a .held) (os ++ d .outs) (a .pages) (a .order) (a .lean) (omega (arith, fw, a .few)) (a .alive) (a .flows) (omega (arith, c .0, t))
             by (inr t) = by2 (t .0) (t .1 p (c .1))
 
 by-weight : (z : Sizes) → SizesOk z → (sts : List Stage) → Sized sts → (m : ℕ) (es : List Event) (l p : ℕ) → Ends z sts m es (λ g. left-of sts g < l) → ((q : ℕ) → suc q ≡ p → Ends z sts m es (λ g. (left-of sts g ≤ l) × Rank (howOf sts) q g)) → (v : ℕ) → Ends z sts m es (λ g. (left-of sts g ≤ l) × Rank (howOf sts) p g × (weigh g < v))
-by-weight z zo sts sz m es l p il ip zero f h os hh o al w c = absurd (omega (arith, c .2))
-by-weight z zo sts sz m es l p il ip (suc v) f h os hh o al w c = step-on z zo sts sz m es l p v il ip (by-weight z zo sts sz m es l p il ip v) f h os hh o al w (c .0, c .1, omega (arith, c .2))
+by-weight z zo sts sz m es l p il ip zero f h os hh o ln fw al w c = absurd (omega (arith, c .2))
+by-weight z zo sts sz m es l p il ip (suc v) f h os hh o ln fw al w c = step-on z zo sts sz m es l p v il ip (by-weight z zo sts sz m es l p il ip v) f h os hh o ln fw al w (c .0, c .1, omega (arith, c .2))
 
 by-rank : (z : Sizes) → SizesOk z → (sts : List Stage) → Sized sts → (m : ℕ) (es : List Event) (l : ℕ) → Ends z sts m es (λ g. left-of sts g < l) → (p : ℕ) → Ends z sts m es (λ g. (left-of sts g ≤ l) × Rank (howOf sts) p g)
-by-rank z zo sts sz m es l il zero f h os hh o al w c = by-weight z zo sts sz m es l zero il (λ (q : ℕ) (e : suc q ≡ 0). absurd (omega arith)) (suc (weigh h)) f h os hh o al w (c .0, c .1, omega arith)
-by-rank z zo sts sz m es l il (suc p) f h os hh o al w c =
-    by-weight z zo sts sz m es l (suc p) il (λ (q : ℕ) (e : suc q ≡ suc p). let k : p ≡ q = omega arith in subst (λ (x : ℕ). Ends z sts m es (λ g. (left-of sts g ≤ l) × Rank (howOf sts) x g)) k (by-rank z zo sts sz m es l il p)) (suc (weigh h)) f h os hh o al w (c .0, c .1, omega arith)
+by-rank z zo sts sz m es l il zero f h os hh o ln fw al w c = by-weight z zo sts sz m es l zero il (λ (q : ℕ) (e : suc q ≡ 0). absurd (omega arith)) (suc (weigh h)) f h os hh o ln fw al w (c .0, c .1, omega arith)
+by-rank z zo sts sz m es l il (suc p) f h os hh o ln fw al w c =
+    by-weight z zo sts sz m es l (suc p) il (λ (q : ℕ) (e : suc q ≡ suc p). let k : p ≡ q = omega arith in subst (λ (x : ℕ). Ends z sts m es (λ g. (left-of sts g ≤ l) × Rank (howOf sts) x g)) k (by-rank z zo sts sz m es l il p)) (suc (weigh h)) f h os hh o ln fw al w (c .0, c .1, omega arith)
 
 by-load : (z : Sizes) → SizesOk z → (sts : List Stage) → Sized sts → (m : ℕ) (es : List Event) (l : ℕ) → Ends z sts m es (λ g. left-of sts g < l)
-by-load z zo sts sz m es zero f h os hh o al w c = absurd (omega (arith, c))
-by-load z zo sts sz m es (suc l) f h os hh o al w c = by-rank z zo sts sz m es l (by-load z zo sts sz m es l) (suc (levelOf (h .segs))) f h os hh o al w (omega (arith, c), inr (omega arith))
+by-load z zo sts sz m es zero f h os hh o ln fw al w c = absurd (omega (arith, c))
+by-load z zo sts sz m es (suc l) f h os hh o ln fw al w c = by-rank z zo sts sz m es l (by-load z zo sts sz m es l) (suc (levelOf (h .segs))) f h os hh o ln fw al w (omega (arith, c), inr (omega arith))
 
 pub comes-out : ComesOut
-comes-out z zo sts sz m es f q os s = subst (λ (x : Queue). Comes z sts m es f x os) (sym (s .is)) (by-load z zo sts sz m es (suc (left-of sts (s .held))) f (s .held) os (s .pages) (s .order) (s .alive) (s .flows) (omega arith))
+comes-out z zo sts sz m es f q os s = subst (λ (x : Queue). Comes z sts m es f x os) (sym (s .is)) (by-load z zo sts sz m es (suc (left-of sts (s .held))) f (s .held) os (s .pages) (s .order) (s .lean) (s .few) (s .alive) (s .flows) (omega arith))
 
 -- OUT OF THE LOGS
 pub same-out : (sts : List Stage) (m : ℕ) (es fs : List Event) → SameCells sts es fs → throughAll sts m es ≡ throughAll sts m fs
@@ -668,15 +675,3 @@ least-is-first = pop-contents
 
 pub any-place : AnyPlace
 any-place how rs ss acc = (onto-both how rs ss acc, onto-append how rs ss acc, onto-onto how rs ss acc)
-
-keeps : (how : ℕ → Sum) (f : Pages) (h : Held) (a : After) (src : List Paged) (below : Key → Type 0) (fst : ℕ) → Kept how f h a src below fst → Keeps how f h a
-keeps how f h a src below fst k = record { held = k .held; is = k .is; pages = k .pages; same = k .same; order = k .order; fresh = k .fresh }
-
-pub steps-keep : StepsKeep
-steps-keep how f h i o =
-    ((λ n. keeps how f h (lower how n (queueOf h)) (h .source) (belowOf (drop n (h .front)) h) (levelOf (h .segs)) (lower-keeps how f n h i o)),
-     (λ n k. keeps how f h (pack (suc n) (suc k) (queueOf h)) (h .source) (Under (h .segs)) (levelOf (h .segs)) (pack-keeps how f n k h i o)),
-     (λ size k l. keeps how f h (spill how size k (pageOf f (headAt k (heads (h .segs)))) (queueOf h)) (h .source) (Under (h .segs)) (levelOf (h .segs)) (spill-keeps how size f k h l i o)),
-     (λ p ps e. keeps how f h (sift how (f (p .number)) (queueOf h)) ps (Under (h .segs)) (levelOf (h .segs)) (sift-keeps how f h p ps e i o)),
-     (λ low c ss e n. keeps how f h (open' how (queueOf h)) c (Under ss) (levelOf ss) (open-keeps how f h low c ss e n i o)),
-     (λ low k inner c ss e n. keeps how f h (unpack (f k) (queueOf h)) c (Under (appendS inner ss)) (levelOf inner) (unpack-keeps how f h low k inner c ss e n i o)))

@@ -171,3 +171,14 @@ each-onto-inv P how (r ∷ rs) cs h =
     let k : P (r .at) × Each P (onto how rs cs) = each-add-inv P how r (onto how rs cs) h in
     let j : Each P rs × Each P cs = each-onto-inv P how rs cs (k .1) in
     ((k .0, j .0), j .1)
+
+-- rows picked
+pub length-pick : (n : ℕ) (f : Key → Bool) (rs : List Row) → length (pick n f rs) + length (left n f rs) ≡ length rs
+unfolding pick left
+length-pick zero f rs = omega arith
+length-pick (suc n) f [] = omega arith
+length-pick (suc n) f (r ∷ rs) = go (f (r .at)) (length-pick n f rs) (length-pick (suc n) f rs)
+  where
+    go : (b : Bool) → length (pick n f rs) + length (left n f rs) ≡ length rs → length (pick (suc n) f rs) + length (left (suc n) f rs) ≡ length rs → length (cond b (r ∷ pick n f rs) (pick (suc n) f rs)) + length (cond b (left n f rs) (r ∷ left (suc n) f rs)) ≡ suc (length rs)
+    go true i j = omega arith
+    go false i j = omega arith

@@ -6,14 +6,30 @@ use mathlib.Core.List.{List, [], _∷_, _++_, append-nil, append-assoc}
 use Prim.Native.Nat.{ℕ, zero, suc, _+_, _*_, _/_, _<_, _≤_}
 use native.Mathlib.Omega.{arith}
 use lib.Dec.{eqb, ltb, leb, T}
-use lib.ListN.{length, take, drop, take-append-drop}
+use lib.ListN.{length, take, drop, take-append-drop, length-append, length-take, length-drop}
 use Rattle.std.proofs.shelf.Tests.{eq-eqb, ne-eqb, leb-false, cases-bool}
 use Rattle.streams.specs.Meaning.{Sum}
 use Rattle.book.specs.Rows.{Key, Row, Bef, Upto, ltk, add, onto, Each, Above, Sorted}
 use Rattle.book.specs.Queue.{Link, nil, page, Seg, Page, Blank, RowPage, IndexPage, Pages, Write, written, Queue, After, isUp, place, places, lowerBy, lower, packBy, pack, siftBy, sift, unpackBy, unpack, openBy, open', below1, isOf, pick, left, Spilled, splitBy, onePage, tooFull, mergeBy, spillBy, spillAt, spill}
-use Rattle.book.specs.Held.{Paged, Segs, none, plain, packed, Held, headOf, heads, queueOf, ChainIn, SegsIn, HeldIn, chainRows, under, contents, Under, Over, Within, ChainOk, FirstIs, SegsOk, Order, Fresh, Kept, Alive, Till, Free, levelOf}
-use Rattle.book.proofs.Rows.{Tri, lo, eq, hi, tri, bef-trans, onto-add, onto-both, onto-append, onto-added, onto-onto, onto-none}
+use Rattle.book.specs.Held.{Paged, Segs, none, plain, packed, Held, headOf, heads, queueOf, ChainIn, SegsIn, HeldIn, chainRows, under, contents, Under, Over, Within, ChainOk, FirstIs, SegsOk, Order, Fresh, Kept, Alive, Till, Free, levelOf, Full, LeanSegs, Lean, rowsOf}
+use Rattle.book.proofs.Rows.{Tri, lo, eq, hi, tri, add-lo, add-eq, add-hi, bef-trans, onto-add, onto-both, onto-append, onto-added, onto-onto, onto-none}
 use Rattle.book.proofs.Lists.{each-like, each-add, each-onto, each-append, each-left, each-right, sorted-add, sorted-onto, sorted-left, sorted-right, sorted-mid, onto-pick, each-pick, each-kept, picked, sorted-pick, sorted-kept, upto-self, upto-bef, upto-trans, upto-bef-trans, bef-upto-trans, ltk-tells, each-onto-inv}
+
+-- HOW MANY
+pub length-add : (how : ℕ → Sum) (r : Row) (cs : List Row) → length (add how r cs) ≤ suc (length cs)
+unfolding add
+length-add how r [] = omega arith
+length-add how r (c ∷ cs) = go (tri (r .at) (c .at)) (length-add how r cs)
+  where
+    go : Tri (r .at) (c .at) → length (add how r cs) ≤ suc (length cs) → length (add how r (c ∷ cs)) ≤ suc (suc (length cs))
+    go (lo p) i = rw (add-lo how r c cs p) (omega arith)
+    go (eq p) i = rw (add-eq how r c cs p) (omega arith)
+    go (hi p) i = rw (add-hi how r c cs p) (omega arith)
+
+pub length-onto : (how : ℕ → Sum) (rs cs : List Row) → length (onto how rs cs) ≤ length rs + length cs
+unfolding onto
+length-onto how [] cs = omega arith
+length-onto how (r ∷ rs) cs = omega (arith, length-add how r (onto how rs cs), length-onto how rs cs)
 
 -- PLACING
 pub up-tells : (ss : Segs) (k : Key) → ((isUp (heads ss) k ≡ true) × Over ss k) ⊎ ((isUp (heads ss) k ≡ false) × Under ss k)
@@ -99,6 +115,21 @@ unfolding placesH
 places-source how [] h = refl
 places-source how (r ∷ rs) h = places-source how rs (placeH how r h)
 
+pub place-few : (how : ℕ → Sum) (r : Row) (h : Held) → rowsOf (placeH how r h) ≤ suc (rowsOf h)
+place-few how r h = go (isUp (heads (h .segs)) (r .at))
+  where
+    go : (b : Bool) → rowsOf (putTo how b r h) ≤ suc (rowsOf h)
+    go true = omega (arith, length-add how r (h .buffer))
+    go false = omega (arith, length-add how r (h .front))
+
+pub places-few : (how : ℕ → Sum) (rs : List Row) (h : Held) → rowsOf (placesH how rs h) ≤ length rs + rowsOf h
+unfolding placesH
+places-few how [] h = omega arith
+places-few how (r ∷ rs) h = omega (arith, places-few how rs (placeH how r h), place-few how r h)
+
+places-lean : (how : ℕ → Sum) (rs : List Row) (h : Held) → LeanSegs (h .segs) → Full (h .source) → Lean (placesH how rs h)
+places-lean how rs h a b = record { segs = subst LeanSegs (sym (places-segs how rs h)) a; source = subst Full (sym (places-source how rs h)) b }
+
 -- PAGES WRITTEN leave those below as they are
 pub written-below : (n to : ℕ) (ws : List Write) (f : Pages) (m : ℕ) → Fresh n to ws → m < n → written ws f m ≡ f m
 unfolding written
@@ -138,9 +169,10 @@ belowOf (y ∷ ys) h k = Bef k (y .at)
 
 lower-by : (how : ℕ → Sum) (f : Pages) (h : Held) (xs ys : List Row) → xs ++ ys ≡ h .front → HeldIn f h → Order h → Kept how f h (record { queue = lowerBy how xs ys (queueOf h); writes = [] }) (h .source) (belowOf ys h) (levelOf (h .segs))
 unfolding lowerBy written
-lower-by how f h xs [] e i o = record { held = h; is = refl; pages = i; same = refl; order = o; fresh = omega arith; source = refl; low = λ k u. u; level = omega arith; live = λ P c a. a }
+lower-by how f h xs [] e i o = record { held = h; is = refl; pages = i; same = refl; order = o; fresh = omega arith; lean = λ l. l; few = omega arith; source = refl; low = λ k u. u; level = omega arith; live = λ P c a. a }
 lower-by how f h xs (y ∷ ys) e i o =
-    record { held = g; is = refl; pages = ((tt, i .0), i .1); same = s; order = p; fresh = omega arith; source = refl; low = λ k u. u; level = omega arith;
+    record { held = g; is = refl; pages = ((tt, i .0), i .1); same = s; order = p; fresh = omega arith; lean = λ l. record { segs = (tt, l .segs); source = l .source };
+             few = omega (arith, length-onto how (y ∷ ys) (h .buffer), ap length e, length-append xs (y ∷ ys)); source = refl; low = λ k u. u; level = omega arith;
              live = λ P c a. (each-right P xs (y ∷ ys) (subst (Each P) (sym e) (each-onto-inv P how (h .front) (onto how (h .buffer) (onto how (under (h .segs)) (onto how (chainRows (h .source)) []))) c .0)) .0, a) }
   where
     g : Held
@@ -169,7 +201,8 @@ unfolding siftBy written
 sift-keeps how f h p ps e i o =
     record { held = placesH how (p .rows) g; is = ap (λ (s : Page). siftBy how s (queueOf h)) (c .1) ∙ places-is how (p .rows) g; pages = places-in how f (p .rows) g (i .0, c .2);
              same = places-contents how (p .rows) g ∙ s; order = places-order how (p .rows) g (record { front = o .front; buffer = o .buffer; below = o .below; above = o .above; segs = o .segs });
-             fresh = omega (arith, places-next how (p .rows) g); source = places-source how (p .rows) g; low = λ k u. subst (λ (x : Segs). Under x k) (sym (places-segs how (p .rows) g)) u;
+             fresh = omega (arith, places-next how (p .rows) g); lean = λ l. places-lean how (p .rows) g (l .segs) (subst Full e (l .source) .1);
+             few = omega (arith, places-few how (p .rows) g, ap (λ (x : List Paged). length (chainRows x)) e, length-append (p .rows) (chainRows ps)); source = places-source how (p .rows) g; low = λ k u. subst (λ (x : Segs). Under x k) (sym (places-segs how (p .rows) g)) u;
              level = omega (arith, ap levelOf (places-segs how (p .rows) g)); live = λ P d a. subst (Alive P) (sym (places-segs how (p .rows) g)) a }
   where
     g : Held
@@ -188,7 +221,8 @@ unfolding openBy written
 open-keeps how f h low c ss e n i o =
     record { held = placesH how (h .buffer) g; is = ap (λ (x : Segs). openBy how (heads x) (queueOf h)) e ∙ places-is how (h .buffer) g; pages = places-in how f (h .buffer) g (j .1, j .0);
              same = places-contents how (h .buffer) g ∙ s; order = places-order how (h .buffer) g p;
-             fresh = omega (arith, places-next how (h .buffer) g); source = places-source how (h .buffer) g; low = λ k u. subst (λ (x : Segs). Under x k) (sym (places-segs how (h .buffer) g)) u;
+             fresh = omega (arith, places-next how (h .buffer) g); lean = λ l. places-lean how (h .buffer) g (subst LeanSegs e (l .segs) .1) (subst LeanSegs e (l .segs) .0);
+             few = omega (arith, places-few how (h .buffer) g, ap (λ (x : Segs). length (under x)) e, length-append (chainRows c) (under ss)); source = places-source how (h .buffer) g; low = λ k u. subst (λ (x : Segs). Under x k) (sym (places-segs how (h .buffer) g)) u;
              level = omega (arith, ap levelOf (places-segs how (h .buffer) g)); live = λ P d a. subst (Alive P) (sym (places-segs how (h .buffer) g)) (subst (Alive P) e a .1) }
   where
     g : Held
@@ -273,6 +307,12 @@ append-live P none ts a b = b
 append-live P (plain low c ss) ts a b = (a .0, append-live P ss ts (a .1) b)
 append-live P (packed low n i c ss) ts a b = (a .0, append-live P ss ts (a .1) b)
 
+append-lean : (ss ts : Segs) → LeanSegs ss → LeanSegs ts → LeanSegs (appendS ss ts)
+unfolding appendS
+append-lean none ts a b = b
+append-lean (plain low c ss) ts a b = (a .0, append-lean ss ts (a .1) b)
+append-lean (packed low n i c ss) ts a b = (a .0, append-lean ss ts (a .1) b, a .2, a .3)
+
 append-level : (ss ts : Segs) (low : Key) → FirstIs ss low → levelOf (appendS ss ts) ≡ levelOf ss
 unfolding appendS
 append-level none ts low f = absurd f
@@ -285,7 +325,8 @@ unfolding unpackBy written appendS
 unpack-keeps how f h low m inner c ss e n i o =
     record { held = g; is = ap (λ (x : Segs). unpackBy (f m) (heads x) (queueOf h)) e ∙ ap (λ (x : Page). unpackBy x (heads (packed low m inner c ss)) (queueOf h)) (j .1)
                ∙ ap (λ (x : List Seg). record { front = h .front; buffer = h .buffer; segments = x; source = headOf c; next = h .next }) (sym (heads-append inner ss));
-             pages = (append-in f (h .next) inner ss (j .3) (j .4), j .2); same = s; order = p; fresh = omega arith; source = refl; low = λ k u. u; level = omega (arith, append-level inner ss low (k .3));
+             pages = (append-in f (h .next) inner ss (j .3) (j .4), j .2); same = s; order = p; fresh = omega arith; lean = λ l. let b : LeanSegs (packed low m inner c ss) = subst LeanSegs e (l .segs) in record { segs = append-lean inner ss (b .3) (b .1); source = b .0 };
+             few = omega (arith, ap length (append-under inner ss), length-append (under inner) (under ss), ap (λ (x : Segs). length (under x)) e, length-append (chainRows c) (under inner ++ under ss), ap (λ (x : List Paged). length (chainRows x)) n); source = refl; low = λ k u. u; level = omega (arith, append-level inner ss low (k .3));
              live = λ P d a. let b : Alive P (packed low m inner c ss) = subst (Alive P) e a in append-live P inner ss (b .0) (b .1) }
   where
     g : Held
@@ -485,6 +526,29 @@ pack-live P zero k m (packed low n inner c ss) a = ((a .0, take-live P k ss (a .
 pack-live P (suc i) k m (plain low c ss) a = (a .0, pack-live P i k m ss (a .1))
 pack-live P (suc i) k m (packed low n inner c ss) a = (a .0, pack-live P i k m ss (a .1))
 
+take-lean : (k : ℕ) (ss : Segs) → LeanSegs ss → LeanSegs (takeS k ss)
+unfolding takeS
+take-lean zero ss a = tt
+take-lean (suc k) none a = tt
+take-lean (suc k) (plain low c ss) a = (a .0, take-lean k ss (a .1))
+take-lean (suc k) (packed low m inner c ss) a = (a .0, take-lean k ss (a .1), a .2, a .3)
+
+drop-lean : (k : ℕ) (ss : Segs) → LeanSegs ss → LeanSegs (dropS k ss)
+unfolding dropS
+drop-lean zero ss a = a
+drop-lean (suc k) none a = tt
+drop-lean (suc k) (plain low c ss) a = drop-lean k ss (a .1)
+drop-lean (suc k) (packed low m inner c ss) a = drop-lean k ss (a .1)
+
+pack-lean : (i k m : ℕ) (ss : Segs) → i + suc (suc k) ≤ length (heads ss) → LeanSegs ss → LeanSegs (packH i (suc k) m ss)
+unfolding packH
+pack-lean zero k m none h a = tt
+pack-lean (suc i) k m none h a = tt
+pack-lean zero k m (plain low c ss) h a = (tt, drop-lean (suc k) ss (a .1), omega (arith, h, ap length (take-heads (suc k) ss), length-take (suc k) (heads ss)), (a .0, take-lean (suc k) ss (a .1)))
+pack-lean zero k m (packed low n inner c ss) h a = (tt, drop-lean (suc k) ss (a .1), omega (arith, h, ap length (take-heads (suc k) ss), length-take (suc k) (heads ss)), (a .0, take-lean (suc k) ss (a .1), a .2, a .3))
+pack-lean (suc i) k m (plain low c ss) h a = (a .0, pack-lean i k m ss (omega arith) (a .1))
+pack-lean (suc i) k m (packed low n inner c ss) h a = (a .0, pack-lean i k m ss (omega arith) (a .1), a .2, a .3)
+
 none-some : (j k : ℕ) (t : Seg) (ts : List Seg) → take {A = Seg} (suc k) (drop j []) ≡ t ∷ ts → ⊥
 none-some zero k t ts q = let z : _≡_ {A = ℕ} 0 1 = cc in omega arith
 none-some (suc j) k t ts q = let z : _≡_ {A = ℕ} 0 1 = cc in omega arith
@@ -515,20 +579,21 @@ pack-in g zero k m (packed low n inner c ss) t ts e w h =
 pack-in g (suc i) k m (plain low c ss) t ts e w h = (h .0, pack-in g i k m ss t ts e w (h .1))
 pack-in g (suc i) k m (packed low n inner c ss) t ts e w h = (h .0, h .1, h .2, h .3, pack-in g i k m ss t ts e w (h .4))
 
-pack-by : (how : ℕ → Sum) (f : Pages) (i k : ℕ) (h : Held) (xs : List Seg) → take (suc k) (drop (suc i) (heads (h .segs))) ≡ xs → HeldIn f h → Order h →
-    Kept how f h (packBy (take (suc i) (heads (h .segs))) xs (drop (suc k) (drop (suc i) (heads (h .segs)))) (queueOf h)) (h .source) (Under (h .segs)) (levelOf (h .segs))
+pack-by : (how : ℕ → Sum) (f : Pages) (i k : ℕ) (h : Held) (xs : List Seg) → suc i + suc (suc k) ≤ length (heads (h .segs)) → take (suc (suc k)) (drop (suc i) (heads (h .segs))) ≡ xs → HeldIn f h → Order h →
+    Kept how f h (packBy (take (suc i) (heads (h .segs))) xs (drop (suc (suc k)) (drop (suc i) (heads (h .segs)))) (queueOf h)) (h .source) (Under (h .segs)) (levelOf (h .segs))
 unfolding packBy written
-pack-by how f i k h [] e hh o = record { held = h; is = refl; pages = hh; same = refl; order = o; fresh = omega arith; source = refl; low = λ x u. u; level = omega arith; live = λ P d a. a }
-pack-by how f i k h (t ∷ ts) e hh o =
-    record { held = g; is = ap (λ (x : List Seg). record { front = h .front; buffer = h .buffer; segments = x; source = headOf (h .source); next = suc (h .next) }) (pack-heads (suc i) k (h .next) (h .segs) t ts e);
-             pages = (pack-in f′ (suc i) k (h .next) (h .segs) t ts e (written-here w [] f) (segs-more f f′ (h .next) (suc (h .next)) a (omega arith) (h .segs) (hh .0)), chain-more f f′ (h .next) (suc (h .next)) a (omega arith) (h .source) (hh .1));
-             same = ap (λ (x : List Row). onto how (h .front) (onto how (h .buffer) (onto how x (onto how (chainRows (h .source)) [])))) (pack-under (suc i) k (h .next) (h .segs));
-             order = record { front = o .front; buffer = o .buffer; below = each-like (Under (h .segs)) (Under (packH (suc i) k (h .next) (h .segs))) (pack-low (suc i) k (h .next) (h .segs)) (h .front) (o .below);
-                              above = each-like (Over (h .segs)) (Over (packH (suc i) k (h .next) (h .segs))) (pack-high (suc i) k (h .next) (h .segs)) (h .buffer) (o .above); segs = pack-ok (suc i) k (h .next) (h .segs) (o .segs) };
-             fresh = omega arith; source = refl; low = pack-low (suc i) k (h .next) (h .segs); level = omega (arith, pack-level i k (h .next) (h .segs)); live = λ P d a′. pack-live P (suc i) k (h .next) (h .segs) a′ }
+pack-by how f i k h [] n e hh o = record { held = h; is = refl; pages = hh; same = refl; order = o; fresh = omega arith; lean = λ l. l; few = omega arith; source = refl; low = λ x u. u; level = omega arith; live = λ P d a. a }
+pack-by how f i k h (t ∷ ts) n e hh o =
+    record { held = g; is = ap (λ (x : List Seg). record { front = h .front; buffer = h .buffer; segments = x; source = headOf (h .source); next = suc (h .next) }) (pack-heads (suc i) (suc k) (h .next) (h .segs) t ts e);
+             pages = (pack-in f′ (suc i) (suc k) (h .next) (h .segs) t ts e (written-here w [] f) (segs-more f f′ (h .next) (suc (h .next)) a (omega arith) (h .segs) (hh .0)), chain-more f f′ (h .next) (suc (h .next)) a (omega arith) (h .source) (hh .1));
+             same = ap (λ (x : List Row). onto how (h .front) (onto how (h .buffer) (onto how x (onto how (chainRows (h .source)) [])))) (pack-under (suc i) (suc k) (h .next) (h .segs));
+             order = record { front = o .front; buffer = o .buffer; below = each-like (Under (h .segs)) (Under (packH (suc i) (suc k) (h .next) (h .segs))) (pack-low (suc i) (suc k) (h .next) (h .segs)) (h .front) (o .below);
+                              above = each-like (Over (h .segs)) (Over (packH (suc i) (suc k) (h .next) (h .segs))) (pack-high (suc i) (suc k) (h .next) (h .segs)) (h .buffer) (o .above); segs = pack-ok (suc i) (suc k) (h .next) (h .segs) (o .segs) };
+             fresh = omega arith; lean = λ l. record { segs = pack-lean (suc i) k (h .next) (h .segs) n (l .segs); source = l .source }; few = omega (arith, ap length (pack-under (suc i) (suc k) (h .next) (h .segs)));
+             source = refl; low = pack-low (suc i) (suc k) (h .next) (h .segs); level = omega (arith, pack-level i (suc k) (h .next) (h .segs)); live = λ P d a′. pack-live P (suc i) (suc k) (h .next) (h .segs) a′ }
   where
     g : Held
-    g = record { front = h .front; buffer = h .buffer; segs = packH (suc i) k (h .next) (h .segs); source = h .source; next = suc (h .next) }
+    g = record { front = h .front; buffer = h .buffer; segs = packH (suc i) (suc k) (h .next) (h .segs); source = h .source; next = suc (h .next) }
     w : Write
     w = record { number = h .next; content = IndexPage (t ∷ ts) }
     f′ : Pages
@@ -536,5 +601,5 @@ pack-by how f i k h (t ∷ ts) e hh o =
     a : (x : ℕ) → x < h .next → f′ x ≡ f x
     a x y = written-below (h .next) (suc (h .next)) (w ∷ []) f x (omega arith) y
 
-pub pack-keeps : (how : ℕ → Sum) (f : Pages) (i k : ℕ) (h : Held) → HeldIn f h → Order h → Kept how f h (pack (suc i) (suc k) (queueOf h)) (h .source) (Under (h .segs)) (levelOf (h .segs))
-pack-keeps how f i k h hh o = pack-by how f i k h (take (suc k) (drop (suc i) (heads (h .segs)))) refl hh o
+pub pack-keeps : (how : ℕ → Sum) (f : Pages) (i k : ℕ) (h : Held) → suc i + suc (suc k) ≤ length (heads (h .segs)) → HeldIn f h → Order h → Kept how f h (pack (suc i) (suc (suc k)) (queueOf h)) (h .source) (Under (h .segs)) (levelOf (h .segs))
+pack-keeps how f i k h n hh o = pack-by how f i k h (take (suc (suc k)) (drop (suc i) (heads (h .segs)))) n refl hh o

@@ -15,22 +15,7 @@ use Rattle.book.specs.Held.{Paged, Segs, none, plain, packed, Held, headOf, he
 use Rattle.book.specs.Due.{count, fullest, Best}
 use Rattle.book.proofs.Rows.{Tri, lo, eq, hi, tri, add-lo, add-eq, add-hi}
 use Rattle.book.proofs.Lists.{ltk-tells}
-use Rattle.book.proofs.Steps.{putTo, placeH, placesH}
-
-pub length-add : (how : ℕ → Sum) (r : Row) (cs : List Row) → length (add how r cs) ≤ suc (length cs)
-unfolding add
-length-add how r [] = omega arith
-length-add how r (c ∷ cs) = go (tri (r .at) (c .at)) (length-add how r cs)
-  where
-    go : Tri (r .at) (c .at) → length (add how r cs) ≤ suc (length cs) → length (add how r (c ∷ cs)) ≤ suc (suc (length cs))
-    go (lo p) i = rw (add-lo how r c cs p) (omega arith)
-    go (eq p) i = rw (add-eq how r c cs p) (omega arith)
-    go (hi p) i = rw (add-hi how r c cs p) (omega arith)
-
-pub length-onto : (how : ℕ → Sum) (rs cs : List Row) → length (onto how rs cs) ≤ length rs + length cs
-unfolding onto
-length-onto how [] cs = omega arith
-length-onto how (r ∷ rs) cs = omega (arith, length-add how r (onto how rs cs), length-onto how rs cs)
+use Rattle.book.proofs.Steps.{putTo, placeH, placesH, length-add, length-onto}
 
 -- rows placed
 abbrev pub weight : Held → ℕ
@@ -49,16 +34,6 @@ places-weight how [] h = omega arith
 places-weight how (r ∷ rs) h = omega (arith, places-weight how rs (placeH how r h), place-weight how r h)
 
 -- rows picked
-pub length-pick : (n : ℕ) (f : Key → Bool) (rs : List Row) → length (pick n f rs) + length (left n f rs) ≡ length rs
-unfolding pick left
-length-pick zero f rs = omega arith
-length-pick (suc n) f [] = omega arith
-length-pick (suc n) f (r ∷ rs) = go (f (r .at)) (length-pick n f rs) (length-pick (suc n) f rs)
-  where
-    go : (b : Bool) → length (pick n f rs) + length (left n f rs) ≡ length rs → length (pick (suc n) f rs) + length (left (suc n) f rs) ≡ length rs → length (cond b (r ∷ pick n f rs) (pick (suc n) f rs)) + length (cond b (left n f rs) (r ∷ left (suc n) f rs)) ≡ suc (length rs)
-    go true i j = omega arith
-    go false i j = omega arith
-
 pub picks : (n : ℕ) (f : Key → Bool) (rs : List Row) → 1 ≤ count f rs → 1 ≤ length (pick (suc n) f rs)
 unfolding pick count
 picks n f [] h = absurd (omega arith)

@@ -10,7 +10,7 @@ use lib.ListN.{length}
 use Rattle.streams.specs.Meaning.{Event, Entry, Stage, Plan, Sum, word, lessBy, cells, mark, allInTime, throughAll, out}
 use Rattle.book.specs.Rows.{Key, Row, Bef, Above, Each, onto, add}
 use Rattle.book.specs.Queue.{Link, nil, page, Seg, Page, Blank, RowPage, IndexPage, Pages, Write, written, Queue, After, place, isOf, headAt, pageOf, spill, lower, pack, sift, unpack, open'}
-use Rattle.book.specs.Held.{Paged, Segs, plain, packed, heads, Held, queueOf, HeldIn, contents, Order, Fresh, Alive}
+use Rattle.book.specs.Held.{Paged, Segs, plain, packed, heads, Held, queueOf, HeldIn, contents, Order, Fresh, Alive, Lean, rowsOf}
 use Rattle.book.specs.Flow.{rowOf, howOf, Onward, Out, On, Gone, onward, Flows}
 
 -- how many there should be: rows in the front, in the buffer and in a page; segments of one level; rows let go in a step; events in an out page and in a log box
@@ -166,6 +166,8 @@ pub record Sound (sts : List Stage) (mark : ℕ) (es : List Event) (f : Pages) (
   pub pages : HeldIn f held
   pub order : Order held
   pub alive : Alive (Has (contents (howOf sts) held)) (held .segs)
+  pub lean : Lean held
+  pub few : rowsOf held ≤ length es
   pub flows : Flows sts mark es (contents (howOf sts) held) os
 
 abbrev pub Sized : List Stage → Type 0
@@ -226,24 +228,6 @@ LeastIsFirst = (how : ℕ → Sum) (h : Held) (r : Row) (rs : List Row) → h .f
 abbrev pub AnyPlace : Type 0
 AnyPlace = (how : ℕ → Sum) (rs ss acc : List Row) → (onto how rs (onto how ss acc) ≡ onto how ss (onto how rs acc)) × (onto how (rs ++ ss) acc ≡ onto how rs (onto how ss acc)) × (onto how (onto how rs ss) acc ≡ onto how rs (onto how ss acc))
 
--- EACH STEP, of whatever size, keeps what is held and its order, with the page that it shows as the pages say and the pages that it writes added
-pub record Keeps (how : ℕ → Sum) (f : Pages) (h : Held) (a : After) : Type 0 where
-  pub held : Held
-  pub is : a .queue ≡ queueOf held
-  pub pages : HeldIn (written (a .writes) f) held
-  pub same : contents how held ≡ contents how h
-  pub order : Order held
-  pub fresh : Fresh (h .next) (held .next) (a .writes)
-
-abbrev pub StepsKeep : Type 0
-StepsKeep = (how : ℕ → Sum) (f : Pages) (h : Held) → HeldIn f h → Order h →
-    ((n : ℕ) → Keeps how f h (lower how n (queueOf h))) ×
-    ((n k : ℕ) → Keeps how f h (pack (suc n) (suc k) (queueOf h))) ×
-    ((size i : ℕ) → 1 ≤ size → Keeps how f h (spill how size i (pageOf f (headAt i (heads (h .segs)))) (queueOf h))) ×
-    ((p : Paged) (ps : List Paged) → h .source ≡ p ∷ ps → Keeps how f h (sift how (f (p .number)) (queueOf h))) ×
-    ((low : Key) (c : List Paged) (ss : Segs) → h .segs ≡ plain low c ss → h .source ≡ [] → Keeps how f h (open' how (queueOf h))) ×
-    ((low : Key) (n : ℕ) (inner : Segs) (c : List Paged) (ss : Segs) → h .segs ≡ packed low n inner c ss → h .source ≡ [] → Keeps how f h (unpack (f n) (queueOf h)))
-
 -- ROOM: what a ledger and a page must have room for
 abbrev pub frontRoom : Sizes → ℕ
 frontRoom z = z .front + z .buffer + z .rows
@@ -260,10 +244,6 @@ abbrev pub PageRoom : Sizes → Page → Type 0
 PageRoom z Blank = Unit {0}
 PageRoom z (RowPage below rs) = length rs ≤ z .rows
 PageRoom z (IndexPage ss) = length ss ≤ suc (z .segments)
-
-abbrev pub RoomKept : Type 0
-RoomKept = (z : Sizes) → SizesOk z → (sts : List Stage) (m : ℕ) (es : List Event) (f : Pages) (q : Queue) (os : List Event) (step : Step) → Sound sts m es f q os → ((n : ℕ) → PageRoom z (f n)) → Room z q → due z m q ≡ Do step →
-    (d : Done) × (d ≡ do' z sts m step (pageOf f (shows step q)) q) × Room z (d .queue) × ((n : ℕ) → PageRoom z (written (d .writes) f n))
 
 -- A FIRST PART. However far a sound queue is, with some events taken, the others at its mark or after, and the mark of the logs no earlier: what came out is a first part of what comes out of the logs
 abbrev pub Since : ℕ → List Event → Type 0

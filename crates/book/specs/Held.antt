@@ -125,6 +125,24 @@ Alive P none = Unit {0}
 Alive P (plain low c ss) = P low × Alive P ss
 Alive P (packed low n inner c ss) = Alive P inner × Alive P ss
 
+-- LEAN: no page is without rows, and in an index page there are two segments or more
+abbrev pub Full : List Paged → Type 0
+Full [] = Unit {0}
+Full (p ∷ ps) = (1 ≤ length (p .rows)) × Full ps
+
+abbrev pub LeanSegs : Segs → Type 0
+LeanSegs none = Unit {0}
+LeanSegs (plain low c ss) = Full c × LeanSegs ss
+LeanSegs (packed low n inner c ss) = Full c × LeanSegs ss × (2 ≤ length (heads inner)) × LeanSegs inner
+
+pub record Lean (h : Held) : Type 0 where
+  pub segs : LeanSegs (h .segs)
+  pub source : Full (h .source)
+
+-- how many rows lie in all places
+abbrev pub rowsOf : Held → ℕ
+rowsOf h = length (h .front) + length (h .buffer) + length (under (h .segs)) + length (chainRows (h .source))
+
 -- A STEP KEEPS WHAT IS HELD
 pub record Kept (how : ℕ → Sum) (f : Pages) (h : Held) (a : After) (src : List Paged) (below : Key → Type 0) (top : ℕ) : Type 1 where
   pub held : Held
@@ -133,6 +151,8 @@ pub record Kept (how : ℕ → Sum) (f : Pages) (h : Held) (a : After) (src : Li
   pub same : contents how held ≡ contents how h
   pub order : Order held
   pub fresh : Fresh (h .next) (held .next) (a .writes)
+  pub lean : Lean h → Lean held
+  pub few : rowsOf held ≤ rowsOf h
   -- for the end of it all
   pub source : held .source ≡ src
   pub low : (k : Key) → below k → Under (held .segs) k
