@@ -33,7 +33,7 @@ chain-after : (P : Key → Type 0) (a : Key) → ((k : Key) → P k → Bef a k)
 chain-after P a f [] o = tt
 chain-after P a f (p ∷ ps) o = each-append (Bef a) (p .rows) (chainRows ps) (each-like P (Bef a) f (p .rows) (o .1)) (chain-after P a f ps (o .2))
 
-first-under : (ss : Segs) (a low : Key) → FirstIs ss low → Bef a low → Under ss a
+pub first-under : (ss : Segs) (a low : Key) → FirstIs ss low → Bef a low → Under ss a
 first-under none a low e p = tt
 first-under (plain l c ss) a low e p = rw e p
 first-under (packed l n i c ss) a low e p = rw e p
@@ -114,7 +114,7 @@ alive-above P Q b f L (packed low n i c ss) o u a = (alive-above P Q b f (Till L
 bef-self : (k : Key) → Bef k k → ⊥
 bef-self k b = grind arith
 
-has-later : (r : Row) (x : List Row) (k : Key) → Bef (r .at) k → Has (r ∷ x) k → Has x k
+pub has-later : (r : Row) (x : List Row) (k : Key) → Bef (r .at) k → Has (r ∷ x) k → Has x k
 has-later r x k b (inl e) = absurd (bef-self k (subst (λ (z : Key). Bef z k) e b))
 has-later r x k b (inr h) = h
 
@@ -159,6 +159,7 @@ pub record Emits (sts : List Stage) (m : ℕ) (es : List Event) (f : Pages) (k :
   pub few : rowsOf held ≤ rowsOf h
   pub next : held .next ≡ h .next
   pub most : load (length sts) (contents (howOf sts) held) ≤ load (length sts) (contents (howOf sts) h)
+  pub outs : load (length sts) (contents (howOf sts) held) + length (e .outs) ≤ load (length sts) (contents (howOf sts) h)
   pub less : Ended m (h .front) → 1 ≤ k → load (length sts) (contents (howOf sts) held) < load (length sts) (contents (howOf sts) h)
 
 -- one row went on
@@ -184,10 +185,15 @@ go-on sts m es f h os (On r) i o n l a w =
 go-on sts m es f h os Gone i o n l a w = record { held = h; is = refl; pages = i; order = o; none = n; lean = l; few = omega arith; alive = a; flows = subst (Flows sts m es (contents (howOf sts) h)) (sym (append-nil os)) w; next = refl; same = refl }
 
 stop : (sts : List Stage) (m : ℕ) (es : List Event) (f : Pages) (k : ℕ) (h : Held) (os : List Event) → HeldIn f h → Order h → h .source ≡ [] → Lean h → Alive (Has (contents (howOf sts) h)) (h .segs) → Flows sts m es (contents (howOf sts) h) os → (Ended m (h .front) → 1 ≤ k → ⊥) → Emits sts m es f k h os (record { queue = queueOf h; outs = [] })
-stop sts m es f k h os i o n ln a w nay = record { held = h; is = refl; pages = i; order = o; none = n; lean = ln; few = omega arith; alive = a; flows = subst (Flows sts m es (contents (howOf sts) h)) (sym (append-nil os)) w; next = refl; most = omega arith; less = λ x y. absurd (nay x y) }
+stop sts m es f k h os i o n ln a w nay = record { held = h; is = refl; pages = i; order = o; none = n; lean = ln; few = omega arith; alive = a; flows = subst (Flows sts m es (contents (howOf sts) h)) (sym (append-nil os)) w; next = refl; most = omega arith; outs = omega arith; less = λ x y. absurd (nay x y) }
 
 abbrev Emitting : List Stage → ℕ → List Event → Pages → ℕ → (Queue → Emitted) → Type 0
 Emitting sts m es f k more = (h : Held) (os : List Event) → HeldIn f h → Order h → h .source ≡ [] → Lean h → Alive (Has (contents (howOf sts) h)) (h .segs) → Flows sts m es (contents (howOf sts) h) os → Emits sts m es f k h os (more (queueOf h))
+
+one-out : (how : ℕ → Sum) (o : Onward) (q : Queue) → length (goOn how o q .outs) ≤ 1
+one-out how (Out e) q = omega arith
+one-out how (On r) q = omega arith
+one-out how Gone q = omega arith
 
 emits-by : (sts : List Stage) (m : ℕ) (es : List Event) (f : Pages) (k : ℕ) (more : Queue → Emitted) → Sized sts → Emitting sts m es f k more → (h : Held) (os : List Event) (rs : List Row) → h .front ≡ rs → HeldIn f h → Order h → h .source ≡ [] → Lean h → Alive (Has (contents (howOf sts) h)) (h .segs) → Flows sts m es (contents (howOf sts) h) os → Emits sts m es f (suc k) h os (emitBy sts m more rs (queueOf h))
 unfolding emitBy
@@ -208,12 +214,14 @@ emits-by sts m es f k more z ih h os (r ∷ rs) e i o n ln a w = go (leb (r .at 
     joined t b =
         subst (λ (q : Queue). Emits sts m es f (suc k) h os (then' (ems .outs) (more q))) (sym (t .is))
           (record { held = b .held; is = b .is; pages = b .pages; order = b .order; none = b .none; lean = b .lean; few = omega (arith, b .few, t .few, ap length e); alive = b .alive; flows = subst (Flows sts m es (contents (howOf sts) (b .held))) (append-assoc os (ems .outs) (more (queueOf (t .held)) .outs)) (b .flows); next = b .next ∙ t .next;
-                    most = le; less = λ x y. lt })
+                    most = le; outs = paid; less = λ x y. lt })
       where
         lt : load (length sts) (contents (howOf sts) (b .held)) < load (length sts) (contents (howOf sts) h)
         lt = omega (arith, b .most, ap (load (length sts)) (t .same), ap (load (length sts)) p, load-rest (howOf sts) (length sts) (r .at .stage) (drop (suc (r .at .stage)) sts) (eventOf r) (contents (howOf sts) (popH rs h)) (fl .stages .0))
         le : load (length sts) (contents (howOf sts) (b .held)) ≤ load (length sts) (contents (howOf sts) h)
         le = omega (arith, lt)
+        paid : load (length sts) (contents (howOf sts) (b .held)) + length (ems .outs ++ more (queueOf (t .held)) .outs) ≤ load (length sts) (contents (howOf sts) h)
+        paid = omega (arith, b .outs, one-out (howOf sts) (onward sts r) (queueOf (popH rs h)), length-append (ems .outs) (more (queueOf (t .held)) .outs), ap (load (length sts)) (t .same), ap (load (length sts)) p, load-rest (howOf sts) (length sts) (r .at .stage) (drop (suc (r .at .stage)) sts) (eventOf r) (contents (howOf sts) (popH rs h)) (fl .stages .0))
     go : (b : Bool) → leb (r .at .end) m ≡ b → Emits sts m es f (suc k) h os (cond b (then' (ems .outs) (more (ems .queue))) (record { queue = queueOf h; outs = [] }))
     go true l =
         let t : Went sts m es f (popH rs h) (onward sts r) os ems = go-on sts m es f (popH rs h) os (onward sts r) i (pop-order h r rs e o) n (record { segs = ln .segs; source = ln .source }) alv (flows-pop (howOf sts) sts m es r (contents (howOf sts) (popH rs h)) os (fits sts z) (subst Sorted p (sorted-contents (howOf sts) h)) (leb-true (r .at .end) m l) fl) in
@@ -295,10 +303,10 @@ pub ready : (z : Sizes) → SizesOk z → (m : ℕ) (q : Queue) (step : Step) �
 ready z zo m q step e = ready-crowd z zo m (crowd (z .segments) (q .segments) (q .segments)) q step refl e
 
 -- WHAT FALLS. Below the first low there is a row; or else the level of the first segment
-abbrev Low : (ℕ → Sum) → Held → Type 0
+abbrev pub Low : (ℕ → Sum) → Held → Type 0
 Low how h = (k : Key) × Has (contents how h) k × Under (h .segs) k
 
-abbrev Rank : (ℕ → Sum) → ℕ → Held → Type 0
+abbrev pub Rank : (ℕ → Sum) → ℕ → Held → Type 0
 Rank how zero h = Low how h
 Rank how (suc p) h = Low how h ⊎ (levelOf (h .segs) ≤ p)
 
@@ -306,30 +314,31 @@ rank-low : (how : ℕ → Sum) (p : ℕ) (h : Held) → Low how h → Rank how p
 rank-low how zero h l = l
 rank-low how (suc p) h l = inl l
 
-abbrev chainWeight : List Paged → ℕ
+abbrev pub chainWeight : List Paged → ℕ
 chainWeight [] = 0
 chainWeight (p ∷ ps) = 1 + 4 * length (p .rows) + chainWeight ps
 
-abbrev weighQ : Queue → List Paged → ℕ
+abbrev pub weighQ : Queue → List Paged → ℕ
 weighQ q src = 4 * length (q .front) + 2 * length (q .buffer) + length (q .segments) + chainWeight src
 
-abbrev weigh : Held → ℕ
+abbrev pub weigh : Held → ℕ
 weigh h = weighQ (queueOf h) (h .source)
 
-abbrev Falls : (ℕ → Sum) → Held → Held → Type 0
+abbrev pub Falls : (ℕ → Sum) → Held → Held → Type 0
 Falls how h g = (p : ℕ) → Rank how p h → (Rank how p g × (weigh g < weigh h)) ⊎ ((q : ℕ) × (suc q ≡ p) × Rank how q g)
 
-record Advance (sts : List Stage) (m : ℕ) (es : List Event) (f : Pages) (h : Held) (os : List Event) (d : Done) : Type 0 where
-  held : Held
-  is : d .queue ≡ queueOf held
-  pages : HeldIn (written (d .writes) f) held
-  order : Order held
-  alive : Alive (Has (contents (howOf sts) held)) (held .segs)
-  flows : Flows sts m es (contents (howOf sts) held) (os ++ d .outs)
-  fresh : Fresh (h .next) (held .next) (d .writes)
-  lean : Lean held
-  few : rowsOf held ≤ rowsOf h
-  falls : (load (length sts) (contents (howOf sts) held) < load (length sts) (contents (howOf sts) h)) ⊎ ((load (length sts) (contents (howOf sts) held) ≤ load (length sts) (contents (howOf sts) h)) × Falls (howOf sts) h held)
+pub record Advance (sts : List Stage) (m : ℕ) (es : List Event) (f : Pages) (h : Held) (os : List Event) (d : Done) : Type 0 where
+  pub held : Held
+  pub is : d .queue ≡ queueOf held
+  pub pages : HeldIn (written (d .writes) f) held
+  pub order : Order held
+  pub alive : Alive (Has (contents (howOf sts) held)) (held .segs)
+  pub flows : Flows sts m es (contents (howOf sts) held) (os ++ d .outs)
+  pub fresh : Fresh (h .next) (held .next) (d .writes)
+  pub lean : Lean held
+  pub few : rowsOf held ≤ rowsOf h
+  pub outs : load (length sts) (contents (howOf sts) held) + length (d .outs) ≤ load (length sts) (contents (howOf sts) h)
+  pub falls : (load (length sts) (contents (howOf sts) held) < load (length sts) (contents (howOf sts) h)) ⊎ ((load (length sts) (contents (howOf sts) held) ≤ load (length sts) (contents (howOf sts) h)) × Falls (howOf sts) h held)
 
 kept-advance : (sts : List Stage) (m : ℕ) (es : List Event) (f : Pages) (h : Held) (os : List Event) (a : After) (src : List Paged) (below : Key → Type 0) (fst : ℕ) → Lean h → Alive (Has (contents (howOf sts) h)) (h .segs) → Flows sts m es (contents (howOf sts) h) os →
     (k : Kept (howOf sts) f h a src below fst) → Falls (howOf sts) h (k .held) → Advance sts m es f h os (quiet a)
@@ -337,7 +346,7 @@ kept-advance sts m es f h os a src below fst ln al w k fa =
     record { held = k .held; is = k .is; pages = k .pages; order = k .order;
              alive = subst (λ (x : List Row). Alive (Has x) (k .held .segs)) (sym (k .same)) (k .live (Has (contents (howOf sts) h)) (each-has (contents (howOf sts) h)) al);
              flows = subst (λ (x : List Row). Flows sts m es x (os ++ [])) (sym (k .same)) (subst (Flows sts m es (contents (howOf sts) h)) (sym (append-nil os)) w);
-             fresh = k .fresh; lean = k .lean ln; few = k .few; falls = inr (omega (arith, ap (load (length sts)) (k .same)), fa) }
+             fresh = k .fresh; lean = k .lean ln; few = k .few; outs = omega (arith, ap (load (length sts)) (k .same)); falls = inr (omega (arith, ap (load (length sts)) (k .same)), fa) }
 
 kept-weigh : (how : ℕ → Sum) (f : Pages) (h : Held) (a : After) (src : List Paged) (below : Key → Type 0) (fst : ℕ) → (k : Kept how f h a src below fst) → weigh (k .held) ≡ weighQ (a .queue) src
 kept-weigh how f h a src below fst k = ap (λ (q : Queue). weighQ q (k .held .source)) (sym (k .is)) ∙ ap (weighQ (a .queue)) (k .source)
@@ -441,7 +450,7 @@ sift-weigh how f h p ps e v = omega (arith, places-weight how (p .rows) g, ap le
     g : Held
     g = record { front = h .front; buffer = h .buffer; segs = h .segs; source = ps; next = h .next }
 
-abbrev Adv : Sizes → List Stage → ℕ → List Event → Pages → Held → List Event → Step → Type 0
+abbrev pub Adv : Sizes → List Stage → ℕ → List Event → Pages → Held → List Event → Step → Type 0
 Adv z sts m es f h os step = Advance sts m es f h os (do' z sts m step (pageOf f (shows step (queueOf h))) (queueOf h))
 
 adv-sift : (z : Sizes) (sts : List Stage) (m : ℕ) (es : List Event) (f : Pages) (h : Held) (os : List Event) (c : List Paged) → h .source ≡ c → Ready m Sift (queueOf h) → HeldIn f h → Order h → Lean h → Alive (Has (contents (howOf sts) h)) (h .segs) → Flows sts m es (contents (howOf sts) h) os → Adv z sts m es f h os Sift
@@ -495,9 +504,9 @@ adv-unpack z sts m es f h os (packed low n inner c ss) e r i o ln al w =
 -- EMIT
 adv-emit : (z : Sizes) → SizesOk z → (sts : List Stage) (m : ℕ) (es : List Event) (f : Pages) (h : Held) (os : List Event) → Ready m Emit (queueOf h) → Emits sts m es f (z .emits) h os (emit sts m (z .emits) (queueOf h)) → Adv z sts m es f h os Emit
 unfolding written
-adv-emit z zo sts m es f h os r k = record { held = k .held; is = k .is; pages = k .pages; order = k .order; alive = k .alive; flows = k .flows; fresh = omega (arith, k .next); lean = k .lean; few = k .few; falls = inl (k .less (r .1) (zo .3)) }
+adv-emit z zo sts m es f h os r k = record { held = k .held; is = k .is; pages = k .pages; order = k .order; alive = k .alive; flows = k .flows; fresh = omega (arith, k .next); lean = k .lean; few = k .few; outs = k .outs; falls = inl (k .less (r .1) (zo .3)) }
 
-advance : (z : Sizes) → SizesOk z → (sts : List Stage) → Sized sts → (m : ℕ) (es : List Event) (f : Pages) (h : Held) (os : List Event) (step : Step) → Ready m step (queueOf h) → HeldIn f h → Order h → Lean h → Alive (Has (contents (howOf sts) h)) (h .segs) → Flows sts m es (contents (howOf sts) h) os → Adv z sts m es f h os step
+pub advance : (z : Sizes) → SizesOk z → (sts : List Stage) → Sized sts → (m : ℕ) (es : List Event) (f : Pages) (h : Held) (os : List Event) (step : Step) → Ready m step (queueOf h) → HeldIn f h → Order h → Lean h → Alive (Has (contents (howOf sts) h)) (h .segs) → Flows sts m es (contents (howOf sts) h) os → Adv z sts m es f h os step
 advance z zo sts sz m es f h os (Spill k) r i o ln al w = adv-spill z zo sts m es f h os k r i o ln al w
 advance z zo sts sz m es f h os Lower r i o ln al w = adv-lower z sts m es f h os r i o ln al w
 advance z zo sts sz m es f h os (Pack v) r i o ln al w = adv-pack z sts m es f h os v r i o ln al w

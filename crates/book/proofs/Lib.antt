@@ -10,3 +10,5 @@ mod Logs
 mod Book
 mod Words
 mod Numbers
+mod Deep
+mod Ends

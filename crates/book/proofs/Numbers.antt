@@ -250,7 +250,7 @@ taken-rises zero (suc l) u (t ∷ ts) h k = (omega arith, omega arith)
 taken-rises (suc j) zero u (t ∷ ts) h k = (omega arith, omega arith)
 taken-rises (suc j) (suc l) u (t ∷ ts) h k = taken-rises j l u ts h k
 
-took-more : (z : Sizes) (sts : List Stage) (es : List Event) (i : ℕ) (q : Queue) → i ≤ takeEvents z sts es i q .taken
+pub took-more : (z : Sizes) (sts : List Stage) (es : List Event) (i : ℕ) (q : Queue) → i ≤ takeEvents z sts es i q .taken
 unfolding takeEvents
 took-more z sts [] i q = omega arith
 took-more z sts (e ∷ es) i q = go (hasRoom z q) (took-more z sts es (suc i) (take' sts e q))

@@ -27,6 +27,6 @@ stages-stand m n (st ∷ sts) es more ok h s =
 pub first-part : FirstPart
 first-part p sz m es fs ls f q os h s e w =
     let z : Sizes = record { front = 1; buffer = 1; rows = 1; segments = 2; emits = 1; outs = 1; log = 8 } in
-    let c : (more : List Event) × Runs z (p .stages) m f q more × (os ++ more ≡ throughAll (p .stages) m es) = comes-out z (omega arith, omega arith, omega arith, omega arith) (p .stages) sz m es f q os w in
+    let c : (more : List Event) × Runs z (p .stages) m f q more × (os ++ more ≡ throughAll (p .stages) m es) = comes-out z (omega arith, omega arith, omega arith, omega arith, omega arith) (p .stages) sz m es f q os w in
     let r : (rest : List Event) × (throughAll (p .stages) (mark (p .late) ls) (es ++ fs) ≡ throughAll (p .stages) m es ++ rest) = stages-stand m (mark (p .late) ls) (p .stages) es fs sz h s in
     (c .0 ++ r .0, sym (same-out (p .stages) (mark (p .late) ls) (es ++ fs) (allInTime (p .late) ls) e) ∙ r .1 ∙ ap (λ (x : List Event). x ++ r .0) (sym (c .2)) ∙ append-assoc os (c .0) (r .0))

@@ -191,7 +191,7 @@ SoundLater = (sts : List Stage) (m n : ℕ) (es : List Event) (f : Pages) (q : Q
 
 -- sizes that will do
 abbrev pub SizesOk : Sizes → Type 0
-SizesOk z = (1 ≤ z .front) × (1 ≤ z .rows) × (2 ≤ z .segments) × (1 ≤ z .emits)
+SizesOk z = (1 ≤ z .front) × (1 ≤ z .rows) × (2 ≤ z .segments) × (1 ≤ z .emits) × (1 ≤ z .outs)
 
 -- what is due, done
 abbrev pub SoundDone : Type 0

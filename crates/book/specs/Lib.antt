@@ -7,3 +7,4 @@ pub mod Ledger
 pub mod Book
 pub mod Words
 pub mod Numbers
+pub mod Ends
