@@ -12,3 +12,4 @@ mod Words
 mod Numbers
 mod Deep
 mod Ends
+mod Table

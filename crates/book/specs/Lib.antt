@@ -8,3 +8,4 @@ pub mod Book
 pub mod Words
 pub mod Numbers
 pub mod Ends
+pub mod Table
