@@ -9,3 +9,5 @@ pub mod Words
 pub mod Numbers
 pub mod Ends
 pub mod Table
+pub mod Interface
+pub mod Real
