@@ -13,3 +13,5 @@ mod Numbers
 mod Deep
 mod Ends
 mod Table
+mod Real
+mod Safe

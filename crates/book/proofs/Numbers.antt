@@ -152,24 +152,24 @@ steps-move z p (Tidy step) shown x =
     record { rows = r .0; next = r .1; outs = tt; pages = omega arith }
 
 -- numbers of what is written are from the next on, and below the one after
-among-numbers : (n : ℕ) (ws : List Write) (w : Write) → Numbered n ws → Among w ws → (n ≤ w .number) × (w .number < n + length ws)
+pub among-numbers : (n : ℕ) (ws : List Write) (w : Write) → Numbered n ws → Among w ws → (n ≤ w .number) × (w .number < n + length ws)
 among-numbers n [] w h a = absurd a
 among-numbers n (v ∷ vs) w h (inl e) = let k : w .number ≡ v .number = ap (λ (x : Write). x .number) e in (omega (arith, h .0), omega (arith, h .0))
 among-numbers n (v ∷ vs) w h (inr a) = let r : (suc n ≤ w .number) × (w .number < suc n + length vs) = among-numbers (suc n) vs w (h .1) a in (omega (arith, r .0), omega (arith, r .1))
 
-among-outs : (n : ℕ) (ws : List OutWrite) (w : OutWrite) → OutNumbered n ws → Among w ws → (n ≤ w .number) × (w .number < n + length ws)
+pub among-outs : (n : ℕ) (ws : List OutWrite) (w : OutWrite) → OutNumbered n ws → Among w ws → (n ≤ w .number) × (w .number < n + length ws)
 among-outs n [] w h a = absurd a
 among-outs n (v ∷ vs) w h (inl e) = let k : w .number ≡ v .number = ap (λ (x : OutWrite). x .number) e in (omega (arith, h .0), omega (arith, h .0))
 among-outs n (v ∷ vs) w h (inr a) = let r : (suc n ≤ w .number) × (w .number < suc n + length vs) = among-outs (suc n) vs w (h .1) a in (omega (arith, r .0), omega (arith, r .1))
 
-one-number : (n : ℕ) (ws : List Write) (w v : Write) → Numbered n ws → Among w ws → Among v ws → w .number ≡ v .number → w ≡ v
+pub one-number : (n : ℕ) (ws : List Write) (w v : Write) → Numbered n ws → Among w ws → Among v ws → w .number ≡ v .number → w ≡ v
 one-number n [] w v h a b e = absurd a
 one-number n (u ∷ us) w v h (inl a) (inl b) e = a ∙ sym b
 one-number n (u ∷ us) w v h (inl a) (inr b) e = absurd (omega (arith, h .0, ap (λ (x : Write). x .number) a, among-numbers (suc n) us v (h .1) b .0))
 one-number n (u ∷ us) w v h (inr a) (inl b) e = absurd (omega (arith, h .0, ap (λ (x : Write). x .number) b, among-numbers (suc n) us w (h .1) a .0))
 one-number n (u ∷ us) w v h (inr a) (inr b) e = one-number (suc n) us w v (h .1) a b e
 
-one-out : (n : ℕ) (ws : List OutWrite) (w v : OutWrite) → OutNumbered n ws → Among w ws → Among v ws → w .number ≡ v .number → w ≡ v
+pub one-out : (n : ℕ) (ws : List OutWrite) (w v : OutWrite) → OutNumbered n ws → Among w ws → Among v ws → w .number ≡ v .number → w ≡ v
 one-out n [] w v h a b e = absurd a
 one-out n (u ∷ us) w v h (inl a) (inl b) e = a ∙ sym b
 one-out n (u ∷ us) w v h (inl a) (inr b) e = absurd (omega (arith, h .0, ap (λ (x : OutWrite). x .number) a, among-outs (suc n) us v (h .1) b .0))
@@ -259,7 +259,7 @@ took-more z sts (e ∷ es) i q = go (hasRoom z q) (took-more z sts es (suc i) (t
     go true h = omega arith
     go false h = omega arith
 
-written-numbered : (n : ℕ) (ws : List Write) (f : Pages) (m : ℕ) → Numbered n ws → m < n → written ws f m ≡ f m
+pub written-numbered : (n : ℕ) (ws : List Write) (f : Pages) (m : ℕ) → Numbered n ws → m < n → written ws f m ≡ f m
 unfolding written
 written-numbered n [] f m h l = refl
 written-numbered n (w ∷ ws) f m h l = go (ne-eqb m (w .number) (λ (e : m ≡ w .number). omega (arith, h .0))) (written-numbered (suc n) ws f m (h .1) (omega arith))
@@ -267,7 +267,7 @@ written-numbered n (w ∷ ws) f m h l = go (ne-eqb m (w .number) (λ (e : m ≡ 
     go : eqb m (w .number) ≡ false → written ws f m ≡ f m → cond (eqb m (w .number)) (w .content) (written ws f m) ≡ f m
     go e i = rw e i
 
-out-numbered : (n : ℕ) (ws : List OutWrite) (f : ℕ → List Event) (m : ℕ) → OutNumbered n ws → m < n → outWritten ws f m ≡ f m
+pub out-numbered : (n : ℕ) (ws : List OutWrite) (f : ℕ → List Event) (m : ℕ) → OutNumbered n ws → m < n → outWritten ws f m ≡ f m
 unfolding outWritten
 out-numbered n [] f m h l = refl
 out-numbered n (w ∷ ws) f m h l = go (ne-eqb m (w .number) (λ (e : m ≡ w .number). omega (arith, h .0))) (out-numbered (suc n) ws f m (h .1) (omega arith))

@@ -11,3 +11,4 @@ pub mod Ends
 pub mod Table
 pub mod Interface
 pub mod Real
+pub mod Limits
