@@ -177,7 +177,7 @@ one-out n (u ∷ us) w v h (inr a) (inl b) e = absurd (omega (arith, h .0, ap (�
 one-out n (u ∷ us) w v h (inr a) (inr b) e = one-out (suc n) us w v (h .1) a b e
 
 -- a ledger that is still there, or one that is past the step
-took-next : (z : Sizes) (sts : List Stage) (es : List Event) (i : ℕ) (q : Queue) → takeEvents z sts es i q .queue .next ≡ q .next
+pub took-next : (z : Sizes) (sts : List Stage) (es : List Event) (i : ℕ) (q : Queue) → takeEvents z sts es i q .queue .next ≡ q .next
 unfolding takeEvents
 took-next z sts [] i q = refl
 took-next z sts (e ∷ es) i q = go (hasRoom z q) (took-next z sts es (suc i) (take' sts e q))
