@@ -14,4 +14,5 @@ mod Deep
 mod Ends
 mod Table
 mod Real
+mod Parts
 mod Safe

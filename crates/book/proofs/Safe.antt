@@ -4,6 +4,7 @@ use mathlib.Core.Logic.{_⊎_, inl, inr}
 use mathlib.Core.Bool.{Bool, true, false, cond, _&&_, not}
 use mathlib.Core.List.{List, [], _∷_, _++_, append-assoc, append-nil, List·Memᴰ}
 use Prim.Native.Nat.{ℕ, zero, suc, _+_, _-_, _*_, _/_, _%_, _<_, _≤_}
+use native.Mathlib.Nat.{div-add-mod', lt-of-mul-lt-mul-right}
 use native.Mathlib.Omega.{arith}
 use lib.Dec.{eqb, ltb, leb, T}
 use lib.ListN.{length, length-append}
@@ -20,7 +21,9 @@ use Rattle.book.specs.Numbers.{Numbered, OutNumbered, Moves, Among, Follows, i
 use Rattle.book.specs.Interface.{Gives, lacks, gives, Calls, alone, withPage, Next, reply, Filling, Ops, IsPage, Now, Gathered, noPage, onePage, Tag, Stays, Safe}
 use Rattle.book.specs.Real.{logOr, ledgerOr, orBlank, orNone, hasBy, servedOf, floorOf, writes, addsBy, raiseBy, raised, callsOf, callsFor, dueBy, turnBy, turnFor, afterBy, rowFillings, outFillings, pagesBy, takeBy, answerBy, moreBy, real}
 use Rattle.book.specs.Limits.{Limits, RealSafe}
+use Rattle.streams.proofs.Logs.{lessBy-is}
 use Rattle.book.proofs.Words.{reads-back}
+use Rattle.book.proofs.Parts.{drop-past, drop-append, first-append, first-of-more, outs-long, page-part}
 use Rattle.book.proofs.Book.{sound-first, sound-batch, sound-take, sound-turn, first-of-out, outs-same, logs-at}
 use Rattle.book.proofs.Numbers.{steps-move, always-grows, old-stays, among-numbers, among-outs, one-number, one-out, written-numbered, out-numbered}
 use Rattle.book.proofs.Real.{just-same, mem-among, among-mem, among-append, row-is-page, out-is-page, rowFilling, outFilling, row-filling, out-filling, filled-row, filled-out, find-row, find-out, bytes-long, bytes-bytes, given, calls-page, calls-none, shown-below, served-set, served-other, batch-served, nobody-served, raised-under}
@@ -576,3 +579,91 @@ module _ (z : Sizes) (zo : SizesOk z) (p : Plan) (fine : PlanFine p) (logs : ℕ
       spent : (a : Filling) → Called t a → Page′ (t .ledger) (a .box)
       spent a (a-row w i q) = inl (w .number, omega (arith, among-numbers (v .ledger .queue .next) (t .rows) w (mv .rows) i .1, mv .next), ap (λ (s : Filling). s .box) q)
       spent a (an-out w i q) = inr (w .number, omega (arith, among-outs (v .ledger .pages) (t .outs) w (mv .outs) i .1, mv .pages), ap (λ (s : Filling). s .box) q)
+
+  -- WHAT CAME OUT
+  pages-full : (n : ℕ) (ls : List (List Entry)) (f : ℕ → Box) (r : Right n ls f) (t : ℕ) → t < r .book .ledger .pages → length (outIn′ f t) ≡ z .outs
+  unfolding orNone
+  pages-full n ls f r t h = ap (λ (m : Maybe (List Event)). length (orNone m)) (r .out t h .1) ∙ r .sound .full t h
+
+  old-pages : (n : ℕ) (ls : List (List Entry)) (f : ℕ → Box) (r : Right n ls f) (x : List ℕ) (a : Old f x) → a .old .pages ≤ r .book .ledger .pages
+  old-pages n ls f r x a = omega (arith, a .pages, ap (λ (y : Ledger). y .pages) (just-same (a .now) (r .book .ledger) (sym (a .is) ∙ r .ledger)))
+
+  in-page : (from : ℕ) (got : List Event) (n : ℕ) → from + length got < n * z .outs → (from + length got) / z .outs < n
+  in-page from got n h = let q : (from + length got) / z .outs * z .outs + (from + length got) % z .outs ≡ from + length got = div-add-mod' (from + length got) (z .outs) in lt-of-mul-lt-mul-right (z .outs) (omega (arith, q, h))
+
+  answer-spent : {n : ℕ} {ls : List (List Entry)} {f : ℕ → Box} → Right n ls f → (from most : ℕ) (x : List ℕ) (got : List Event) (b : ℕ) → Old f x → O .answer from most x got ≡ Rattle.book.specs.Interface.page b → Spent (f 0 .bytes) b
+  answer-spent {n} {ls} {f} r from most x got b a e =
+      let q : (from + length got < a .old .pages * z .outs) × (b ≡ outBox ((from + length got) / z .outs)) = answer-tells from most (a .old) got b (sym (ap (λ (m : Maybe Ledger). answerBy z from most m got) (a .reads)) ∙ e) in
+      (r .book .ledger, r .ledger, inr ((from + length got) / z .outs, omega (arith, in-page from got (a .old .pages) (q .0), old-pages n ls f r x a), q .1))
+
+  -- what was gathered is what came out, from there on
+  gathered : (n : ℕ) (ls : List (List Entry)) (f : ℕ → Box) (r : Right n ls f) (from most : ℕ) (x : List ℕ) (a : Old f x) (got : List Event) → Gathered O (λ b y. Spent (f 0 .bytes) b × (f b .bytes ≡ y)) from most x got → dropOf from (cameIn f (a .old)) ≡ got ++ dropOf (from + length got) (cameIn f (a .old))
+  gathered n ls f r from most x a got noPage = ap (λ (m : ℕ). dropOf m (cameIn f (a .old))) (omega arith)
+  gathered n ls f r from most x a got (onePage {got = had} b y g e m) =
+      gathered n ls f r from most x a had g ∙ ap (λ (es : List Event). had ++ es) part ∙ sym (append-assoc had new (dropOf (from + length had + length new) (cameIn f (a .old))))
+      ∙ ap (λ (k : ℕ). (had ++ new) ++ dropOf k (cameIn f (a .old))) (omega (arith, length-append had new))
+    where
+      pos : ℕ
+      pos = from + length had
+      q : (from + length had < a .old .pages * z .outs) × (b ≡ outBox ((from + length had) / z .outs))
+      q = answer-tells from most (a .old) had b (sym (ap (λ (w : Maybe Ledger). answerBy z from most w had) (a .reads)) ∙ e)
+      new : List Event
+      new = dropOf (pos % z .outs) (orNone (outIn y))
+      same : orNone (outIn y) ≡ outIn′ f (pos / z .outs)
+      same = ap (λ (bs : List ℕ). orNone (outIn bs)) (sym (m .1) ∙ ap (λ (c : ℕ). f c .bytes) (q .1))
+      part : dropOf pos (cameIn f (a .old)) ≡ new ++ dropOf (pos + length new) (cameIn f (a .old))
+      part = page-part (outIn′ f) (z .outs) (a .old .pages) pos (a .old .tail) (zo .4) (λ t h. pages-full n ls f r t (omega (arith, h, old-pages n ls f r x a))) (in-page from had (a .old .pages) (q .0)) ∙ ap (λ (es : List Event). dropOf (pos % z .outs) es ++ dropOf (pos + length (dropOf (pos % z .outs) es)) (cameIn f (a .old))) (sym same)
+
+  reply-tells : (from most : ℕ) (x : Ledger) (got es : List Event) → answerBy z from most (just x) got ≡ reply es → (es ≡ firstOf most (got ++ dropOf (lessBy (x .pages * z .outs) (from + length got)) (x .tail))) × ((most ≤ length got) ⊎ (x .pages * z .outs ≤ from + length got))
+  unfolding answerBy
+  reply-tells from most x got es e = go (ltb (length got) most) refl (ltb (from + length got) (x .pages * z .outs)) refl e
+    where
+      pos : ℕ
+      pos = from + length got
+      all : ℕ
+      all = x .pages * z .outs
+      go : (c : Bool) → ltb (length got) most ≡ c → (d : Bool) → ltb pos all ≡ d → cond (c && d) (Rattle.book.specs.Interface.page (outBox (pos / z .outs))) (reply (firstOf most (got ++ dropOf (lessBy all pos) (x .tail)))) ≡ reply es → (es ≡ firstOf most (got ++ dropOf (lessBy all pos) (x .tail))) × ((most ≤ length got) ⊎ (all ≤ pos))
+      go true t true u q = absurd (let i : _≡_ {A = ℕ} 0 1 = cc in omega arith)
+      go true t false u q = (cc, inr (Rattle.std.proofs.shelf.Tests.ltb-false pos all u))
+      go false t true u q = (cc, inl (Rattle.std.proofs.shelf.Tests.ltb-false (length got) most t))
+      go false t false u q = (cc, inl (Rattle.std.proofs.shelf.Tests.ltb-false (length got) most t))
+
+  answer-ok : {n : ℕ} {ls : List (List Entry)} {f : ℕ → Box} (from most : ℕ) (x : List ℕ) (got es : List Event) → Right n ls f → Old f x → Gathered O (λ b y. Spent (f 0 .bytes) b × (f b .bytes ≡ y)) from most x got → O .answer from most x got ≡ reply es →
+    (j : ℕ) × (j ≤ most) × (es ≡ firstOf j (dropOf from (out p ls)))
+  answer-ok {n} {ls} {f} from most x got es r a g e = (length (firstOf most (dropOf from o)), parts .0, given′ ∙ parts .1 ∙ ap (firstOf (length (firstOf most (dropOf from o)))) (sym (drop-append from o more) ∙ ap (dropOf from) (sym whole)))
+    where
+      o : List Event
+      o = cameIn f (a .old)
+      w : Ledger
+      w = a .old
+      fst : (m : List Event) × (out p ls ≡ cameOut (r .book) ++ m)
+      fst = first-of-out z p fine ls (r .book) (r .sound)
+      more : List Event
+      more = a .more .0 ++ fst .0
+      whole : out p ls ≡ o ++ more
+      whole = fst .1 ∙ ap (λ (xs : List Event). xs ++ fst .0) (sym (came-is n ls f r) ∙ ap (cameIn f) (sym (just-same (a .now) (r .book .ledger) (sym (a .is) ∙ r .ledger))) ∙ a .more .1) ∙ append-assoc o (a .more .0) (fst .0)
+      t : (es ≡ firstOf most (got ++ dropOf (lessBy (w .pages * z .outs) (from + length got)) (w .tail))) × ((most ≤ length got) ⊎ (w .pages * z .outs ≤ from + length got))
+      t = reply-tells from most w got es (sym (ap (λ (m : Maybe Ledger). answerBy z from most m got) (a .reads)) ∙ e)
+      had : dropOf from o ≡ got ++ dropOf (from + length got) o
+      had = gathered n ls f r from most x a got g
+      long : length (outsOf (outIn′ f) (w .pages)) ≡ w .pages * z .outs
+      long = outs-long (outIn′ f) (z .outs) (w .pages) (λ i h. pages-full n ls f r i (omega (arith, h, old-pages n ls f r x a)))
+      tail : w .pages * z .outs ≤ from + length got → dropOf (from + length got) o ≡ dropOf (lessBy (w .pages * z .outs) (from + length got)) (w .tail)
+      tail h = ap (λ (m : ℕ). dropOf m o) (omega (arith, h, long, lessBy-is (w .pages * z .outs) (from + length got))) ∙ drop-past (outsOf (outIn′ f) (w .pages)) (w .tail) (lessBy (w .pages * z .outs) (from + length got))
+      given′ : es ≡ firstOf most (dropOf from o)
+      given′ = t .0 ∙ by (t .1)
+        where
+          by : (most ≤ length got) ⊎ (w .pages * z .outs ≤ from + length got) → firstOf most (got ++ dropOf (lessBy (w .pages * z .outs) (from + length got)) (w .tail)) ≡ firstOf most (dropOf from o)
+          by (inl h) = first-append most got (dropOf (lessBy (w .pages * z .outs) (from + length got)) (w .tail)) h ∙ sym (first-append most got (dropOf (from + length got) o) h) ∙ ap (firstOf most) (sym had)
+          by (inr h) = ap (λ (xs : List Event). firstOf most (got ++ xs)) (sym (tail h)) ∙ ap (firstOf most) (sym had)
+      parts : (length (firstOf most (dropOf from o)) ≤ most) × (firstOf most (dropOf from o) ≡ firstOf (length (firstOf most (dropOf from o))) (dropOf from o ++ dropOf (from - length o) more))
+      parts = first-of-more most (dropOf from o) (dropOf (from - length o) more)
+
+  safe : Safe (real z p logs) p logs
+  safe = record {
+      bound = L .bound; far = L .far; Sound = Right; OldLedger = OldLedger; OldLog = OldLog; Floor = Floor; Spent = Spent; ledger-now = ledger-now; log-now = log-now; floor-none = floor-none; floor-raise = floor-raise; starts = starts; later = later′;
+      due-page = due-page; pages-page = pages-page; answer-page = answer-page; pages-one = pages-one; spent-filled = spent-filled; due-spent = due-spent; pages-new = pages-new; answer-spent = answer-spent; has-none = has-none; has-new = has-new; has-mine = has-mine; has-other = has-other;
+      put-ok = put-ok; page-ok = page-ok; step-ok = step-ok; same-ok = same-ok; take-ok = take-ok; answer-ok = answer-ok }
+
+pub real-safe : RealSafe
+real-safe z zo p fine logs L = safe z zo p fine logs L
