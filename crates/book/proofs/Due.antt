@@ -15,7 +15,7 @@ use Rattle.book.specs.Rows.{Key, Row, Bef, Upto, add, onto, Each, Above, Sorte
 use Rattle.book.specs.Queue.{Link, nil, page, Seg, Page, Blank, RowPage, IndexPage, Pages, Write, written, Queue, After, place, places, lowerBy, packBy, siftBy, isOf, pick, left, spill, lower, pack, sift, unpack, open', pageOf, headAt, Spilled, spillAt}
 use Rattle.book.specs.Held.{Paged, Segs, none, plain, packed, Held, headOf, heads, queueOf, ChainIn, SegsIn, HeldIn, chainRows, under, contents, Under, Over, Within, ChainOk, FirstIs, SegsOk, Order, Fresh, Kept, Alive, Till, Free, levelOf, Full, LeanSegs, Lean, rowsOf}
 use Rattle.book.specs.Flow.{rowOf, howOf, eventOf, Onward, Out, On, Gone, onwardBy, onward, rest, outs, Flows}
-use Rattle.book.specs.Due.{Sizes, Emitted, goOn, popped, then', emitBy, emit, Step, Spill, Lower, Pack, Sift, Emit, Unpack, Open, Due, Nothing, Do, fullest, atLevel, belowLevel, Crowd, calm, crowded, crowd, dueFirst, dueSegments, dueFront, dueSource, dueRows, dueCrowd, due, indexOf, shows, Done, quiet, do', take', Sound, Sized, empty, SoundAtFirst, SoundTaken, SoundLater, SoundDone, AllCameOut, Has, SizesOk, count, Runs, rests, goes, ComesOut, SameCells, OutOfLogs, LeastIsFirst, AnyPlace}
+use Rattle.book.specs.Due.{Sizes, Emitted, goOn, popped, then', emitBy, emit, Step, Spill, Lower, Pack, Sift, Emit, Unpack, Open, Due, Nothing, Do, fullest, atLevel, belowLevel, Crowd, calm, crowded, crowd, dueFirst, dueSegments, dueFront, dueSource, dueRows, dueCrowd, due, indexOf, shows, Done, quiet, packMany, do', take', Sound, Sized, empty, SoundAtFirst, SoundTaken, SoundLater, SoundDone, AllCameOut, Has, SizesOk, count, Runs, rests, goes, ComesOut, SameCells, OutOfLogs, LeastIsFirst, AnyPlace}
 use Rattle.book.proofs.Rows.{Tri, lo, eq, hi, tri, bef-trans, onto-none, add-lo, add-eq, add-hi, onto-both, onto-append, onto-onto}
 use Rattle.book.proofs.Lists.{each-like, each-onto, each-append, sorted-onto, add-first, bef-upto-trans, sorted-mid, each-left, length-pick}
 use Rattle.book.proofs.Steps.{placeH, place-is, place-contents, place-order, lower-keeps, sift-keeps, open-keeps, unpack-keeps, pack-keeps, belowOf, placesH, places-is, places-segs, under-down, appendS, place-few, length-onto}
@@ -421,8 +421,11 @@ unfolding packBy
 pack-weigh xs [] us q src l e = absurd (omega arith)
 pack-weigh xs (y ∷ ys) us q src l e = omega (arith, length-append xs (record { low = y .low; index = page (q .next); head = nil; level = suc (y .level) } ∷ us))
 
-adv-pack : (z : Sizes) (sts : List Stage) (m : ℕ) (es : List Event) (f : Pages) (h : Held) (os : List Event) (v : ℕ) → Ready m (Pack v) (queueOf h) → HeldIn f h → Order h → Lean h → Alive (Has (contents (howOf sts) h)) (h .segs) → Flows sts m es (contents (howOf sts) h) os → Advance sts m es f h os (do' z sts m (Pack v) Blank (queueOf h))
-adv-pack z sts m es f h os v r hh o ln al w = go (belowLevel v ss + atLevel v ss / 2) (lessBy (atLevel v ss / 2) (atLevel v ss)) (omega (arith, r)) (omega (arith, r, lessBy-is (atLevel v ss / 2) (atLevel v ss))) (omega (arith, levels-apart v ss, lessBy-is (atLevel v ss / 2) (atLevel v ss)))
+many-fits : (z : Sizes) (n : ℕ) → 3 ≤ n → 2 ≤ z .segments → (2 ≤ packMany z n) × (packMany z n ≤ n - n / 2)
+many-fits z n h k = elim (ltb (z .segments) (lessBy (n / 2) n)) as (λ c. ltb (z .segments) (lessBy (n / 2) n) ≡ c → (2 ≤ cond c (z .segments) (lessBy (n / 2) n)) × (cond c (z .segments) (lessBy (n / 2) n) ≤ n - n / 2)) [ true ↦ λ e. (k, omega (arith, lessBy-is (n / 2) n, ltb-true (z .segments) (lessBy (n / 2) n) e)) | false ↦ λ e. (omega (arith, h, lessBy-is (n / 2) n), omega (arith, lessBy-is (n / 2) n)) ] refl
+
+adv-pack : (z : Sizes) → SizesOk z → (sts : List Stage) (m : ℕ) (es : List Event) (f : Pages) (h : Held) (os : List Event) (v : ℕ) → Ready m (Pack v) (queueOf h) → HeldIn f h → Order h → Lean h → Alive (Has (contents (howOf sts) h)) (h .segs) → Flows sts m es (contents (howOf sts) h) os → Advance sts m es f h os (do' z sts m (Pack v) Blank (queueOf h))
+adv-pack z zo sts m es f h os v r hh o ln al w = go (belowLevel v ss + atLevel v ss / 2) (packMany z (atLevel v ss)) (omega (arith, r)) (many-fits z (atLevel v ss) r (zo .2) .0) (omega (arith, levels-apart v ss, many-fits z (atLevel v ss) r (zo .2) .1))
   where
     ss : List Seg
     ss = heads (h .segs)
@@ -509,7 +512,7 @@ adv-emit z zo sts m es f h os r k = record { held = k .held; is = k .is; pages =
 pub advance : (z : Sizes) → SizesOk z → (sts : List Stage) → Sized sts → (m : ℕ) (es : List Event) (f : Pages) (h : Held) (os : List Event) (step : Step) → Ready m step (queueOf h) → HeldIn f h → Order h → Lean h → Alive (Has (contents (howOf sts) h)) (h .segs) → Flows sts m es (contents (howOf sts) h) os → Adv z sts m es f h os step
 advance z zo sts sz m es f h os (Spill k) r i o ln al w = adv-spill z zo sts m es f h os k r i o ln al w
 advance z zo sts sz m es f h os Lower r i o ln al w = adv-lower z sts m es f h os r i o ln al w
-advance z zo sts sz m es f h os (Pack v) r i o ln al w = adv-pack z sts m es f h os v r i o ln al w
+advance z zo sts sz m es f h os (Pack v) r i o ln al w = adv-pack z zo sts m es f h os v r i o ln al w
 advance z zo sts sz m es f h os Sift r i o ln al w = adv-sift z sts m es f h os (h .source) refl r i o ln al w
 advance z zo sts sz m es f h os Emit r i o ln al w = adv-emit z zo sts m es f h os r (emits sts m es f (z .emits) sz h os i o (no-source (h .source) (r .0)) ln al w)
 advance z zo sts sz m es f h os Unpack r i o ln al w = adv-unpack z sts m es f h os (h .segs) refl r i o ln al w

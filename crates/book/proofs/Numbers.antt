@@ -14,7 +14,7 @@ use Rattle.streams.specs.Calls.{putIn}
 use Rattle.book.specs.Rows.{Key, Row, add, onto}
 use Rattle.book.specs.Queue.{Link, nil, page, Seg, Page, Blank, RowPage, IndexPage, Pages, Write, written, Queue, After, isUp, place, places, lowerBy, packBy, siftBy, unpackBy, openBy, isOf, pick, left, Spilled, splitBy, onePage, tooFull, mergeBy, spillBy, spillAt, spill, pageOf}
 use Rattle.book.specs.Flow.{howOf, Onward, Out, On, Gone, onward}
-use Rattle.book.specs.Due.{Sizes, Emitted, goOn, popped, then', emitBy, emit, Step, Spill, Lower, Pack, Sift, Emit, Unpack, Open, Done, do', take', atLevel, belowLevel}
+use Rattle.book.specs.Due.{Sizes, Emitted, goOn, popped, then', emitBy, emit, Step, Spill, Lower, Pack, Sift, Emit, Unpack, Open, Done, packMany, do', take', atLevel, belowLevel}
 use Rattle.book.specs.Ledger.{Served, LogBox, Taken, takenOf, setAt, Ledger, watermark, hasRoom, Took, takeEvents, newEvents, tookTo, took, Task, Publish, Tidy, Wanted, Rest, Want, wanted, OutWrite, outWritten, Turn, turned, does}
 use Rattle.book.specs.Book.{Book, outsOf, cameOut, putBatch, takeInto, turnOf, afterTurn, putAll, HeldOnce, logOf}
 use Rattle.book.specs.Numbers.{Numbered, OutNumbered, Moves, StepsMove, Follows, itself, batch, takes, turn, Among, OneContent, Grows, AlwaysGrows, OldStays}
@@ -138,7 +138,7 @@ step-numbers z sts m (Spill i) shown q = (spill-at-numbers (howOf sts) (z .rows)
 step-numbers z sts m Lower shown q = (tt, omega (arith, lower-next (howOf sts) (take (length (q .front) / 2) (q .front)) (drop (length (q .front) / 2) (q .front)) q))
 step-numbers z sts m (Pack v) shown q =
     let i : ℕ = belowLevel v (q .segments) + atLevel v (q .segments) / 2 in
-    let k : ℕ = lessBy (atLevel v (q .segments) / 2) (atLevel v (q .segments)) in
+    let k : ℕ = packMany z (atLevel v (q .segments)) in
     pack-numbers (take i (q .segments)) (take k (drop i (q .segments))) (drop k (drop i (q .segments))) q
 step-numbers z sts m Sift shown q = (tt, omega (arith, sift-next (howOf sts) shown q))
 step-numbers z sts m Emit shown q = (tt, omega (arith, emit-next sts m (z .emits) q))

@@ -139,11 +139,15 @@ pub record Done : Type 0 where
 abbrev pub quiet : After → Done
 quiet a = record { queue = a .queue; writes = a .writes; outs = [] }
 
+-- the upper half of a level's segments, and never more in an index page than a level should have
+abbrev pub packMany : Sizes → ℕ → ℕ
+packMany z n = cond (ltb (z .segments) (lessBy (n / 2) n)) (z .segments) (lessBy (n / 2) n)
+
 -- DO IT: a function of the queue and the page
 abbrev pub do' : Sizes → List Stage → (mark : ℕ) → Step → Page → Queue → Done
 do' z sts m (Spill i) shown q = quiet (spill (howOf sts) (z .rows) i shown q)
 do' z sts m Lower shown q = quiet (lower (howOf sts) (length (q .front) / 2) q)
-do' z sts m (Pack v) shown q = quiet (pack (belowLevel v (q .segments) + atLevel v (q .segments) / 2) (lessBy (atLevel v (q .segments) / 2) (atLevel v (q .segments))) q)
+do' z sts m (Pack v) shown q = quiet (pack (belowLevel v (q .segments) + atLevel v (q .segments) / 2) (packMany z (atLevel v (q .segments))) q)
 do' z sts m Sift shown q = quiet (sift (howOf sts) shown q)
 do' z sts m Emit shown q = record { queue = emit sts m (z .emits) q .queue; writes = []; outs = emit sts m (z .emits) q .outs }
 do' z sts m Unpack shown q = quiet (unpack shown q)
