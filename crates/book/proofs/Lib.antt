@@ -16,3 +16,4 @@ mod Table
 mod Real
 mod Parts
 mod Safe
+mod Small

@@ -12,3 +12,4 @@ pub mod Table
 pub mod Interface
 pub mod Real
 pub mod Limits
+pub mod Small
