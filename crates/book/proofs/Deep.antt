@@ -110,7 +110,7 @@ lows-alive P (plain low c ss) a = (a .0, lows-alive P ss (a .1))
 lows-alive P (packed low n inner c ss) a = keys-append P (lows inner) (lows ss) (lows-alive P inner (a .0)) (lows-alive P ss (a .1))
 
 -- no more of them than rows
-contents-few : (how : ℕ → Sum) (h : Held) → length (contents how h) ≤ rowsOf h
+pub contents-few : (how : ℕ → Sum) (h : Held) → length (contents how h) ≤ rowsOf h
 unfolding onto
 contents-few how h =
     omega (arith, length-onto how (h .front) (onto how (h .buffer) (onto how (under (h .segs)) (onto how (chainRows (h .source)) []))), length-onto how (h .buffer) (onto how (under (h .segs)) (onto how (chainRows (h .source)) [])), length-onto how (under (h .segs)) (onto how (chainRows (h .source)) []), length-onto how (chainRows (h .source)) [])

@@ -17,3 +17,4 @@ mod Real
 mod Parts
 mod Safe
 mod Small
+mod Limits

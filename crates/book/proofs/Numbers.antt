@@ -133,7 +133,7 @@ unfolding openBy
 open-next how [] q = refl
 open-next how (s ∷ ss) q = places-next how (q .buffer) (record { front = q .front; buffer = []; segments = ss; source = s .head; next = q .next })
 
-step-numbers : (z : Sizes) (sts : List Stage) (m : ℕ) (step : Step) (shown : Page) (q : Queue) → Next (q .next) (do' z sts m step shown q .writes) (do' z sts m step shown q .queue .next)
+pub step-numbers : (z : Sizes) (sts : List Stage) (m : ℕ) (step : Step) (shown : Page) (q : Queue) → Next (q .next) (do' z sts m step shown q .writes) (do' z sts m step shown q .queue .next)
 step-numbers z sts m (Spill i) shown q = (spill-at-numbers (howOf sts) (z .rows) (q .next) shown i (q .segments) (pick (z .rows) (isOf i (q .segments)) (q .buffer)), refl)
 step-numbers z sts m Lower shown q = (tt, omega (arith, lower-next (howOf sts) (take (length (q .front) / 2) (q .front)) (drop (length (q .front) / 2) (q .front)) q))
 step-numbers z sts m (Pack v) shown q =

@@ -75,9 +75,21 @@ total (l ∷ ls) = length l + total ls
 -- AFTER AT MOST SO MANY STEPS
 pub record Fits (z : Sizes) (n : ℕ) (ls : List (List Entry)) (x : Book) : Type 0 where
   pub entries : LogsFit ls
+  pub count : length ls ≤ 256
   pub many : total ls ≤ 8 * n
   pub queue : QueueFit (4 * n + 4) (x .ledger .queue)
   pub pages : (k : ℕ) → PageFit z (4 * n + 4) (x .row k)
   pub outs : x .ledger .pages ≤ n
   pub tail : EventsFit 8 (x .ledger .tail)
   pub long : length (x .ledger .tail) ≤ z .emits * n
+
+-- sizes and plans that will do
+pub record SizesSmall (z : Sizes) : Type 0 where
+  pub emits : z .emits ≤ 128
+  pub rows : z .rows ≤ 4096
+  pub segments : z .segments ≤ 4096
+  pub outs : z .outs ≤ 4096
+
+pub record PlanSmall (p : Plan) : Type 0 where
+  pub few : length (p .stages) ≤ 8
+  pub stages : StagesFit (p .stages)
