@@ -18,9 +18,11 @@ use Rattle.book.specs.Ledger.{Served, nobody, LogBox, emptyLog, workers, letGo
 use Rattle.book.specs.Words.{Maybe, nothing, just, bytesOf, AreWords, writeLog, writeLedger, writePage, writeOut, logIn, ledgerIn, pageIn, outIn, Codec, Served64, Filled, AnyContent, ReadsBack}
 use Rattle.book.specs.Book.{Book, emptyBook, Holds, LogRight, LogsRight, outsOf, cameOut, SoundBook, PlanFine, setLog, putAll, putBatch, takeInto, turnOf, afterTurn, HeldOnce, logOf}
 use Rattle.book.specs.Numbers.{Numbered, OutNumbered, Moves, Among, Follows, itself, batch, takes, turn, Grows}
-use Rattle.book.specs.Interface.{Gives, lacks, gives, Calls, alone, withPage, Next, reply, Filling, Ops, IsPage, Now, Gathered, noPage, onePage, Tag, Stays, Safe}
+use Rattle.book.specs.Interface.{Gives, lacks, gives, Calls, alone, withPage, Next, reply, Filling, Ops, IsPage, Now, Gathered, noPage, onePage, Tag, Stays, Laws}
 use Rattle.book.specs.Real.{logOr, ledgerOr, orBlank, orNone, hasBy, servedOf, floorOf, writes, addsBy, raiseBy, raised, callsOf, callsFor, dueBy, turnBy, turnFor, afterBy, rowFillings, outFillings, pagesBy, takeBy, answerBy, moreBy, real}
-use Rattle.book.specs.Limits.{Limits, RealSafe}
+use Rattle.book.specs.Limits.{Limits}
+use Rattle.book.specs.Right as R
+use Rattle.book.specs.Right.{outIn′, cameIn, Page′}
 use Rattle.streams.proofs.Logs.{lessBy-is}
 use Rattle.book.proofs.Words.{reads-back}
 use Rattle.book.proofs.Parts.{drop-past, drop-append, first-append, first-of-more, outs-long, page-part}
@@ -49,58 +51,31 @@ ledger-back : (n : ℕ) (x : Ledger) → AreWords (writeLedger x) → ledgerOr n
 unfolding ledgerOr bytesOf
 ledger-back n x a = reads-back .1 .back x tt a
 
-module _ (z : Sizes) (zo : SizesOk z) (p : Plan) (fine : PlanFine p) (logs : ℕ) (L : Limits z p logs) where
-  -- THE BOXES ARE RIGHT: they hold a book that is right for the logs, and within its limits
-  record Right (n : ℕ) (ls : List (List Entry)) (f : ℕ → Box) : Type 0 where
-    book : Book
-    sound : SoundBook z p ls book
-    within : L .Within n ls book
-    count : length ls ≡ logs
-    ledger : ledgerOr logs (f 0 .bytes) ≡ just (book .ledger)
-    log : (l : ℕ) → l < logs → logOr (f (logBox l) .bytes) ≡ just (book .log l)
-    row : (k : ℕ) → k < book .ledger .queue .next → (1 ≤ f (rowBox k) .edition) × (pageIn (f (rowBox k) .bytes) ≡ just (book .row k))
-    out : (t : ℕ) → t < book .ledger .pages → (1 ≤ f (outBox t) .edition) × (outIn (f (outBox t) .bytes) ≡ just (book .out t))
+module _ (z : Sizes) (zo : SizesOk z) (p : Plan) (fine : PlanFine p) (logs bound : ℕ) (Within : ℕ → List (List Entry) → Book → Type 0) (L : Limits z p logs bound Within) where
+  abbrev Right : ℕ → List (List Entry) → (ℕ → Box) → Type 0
+  Right n ls f = R.Right z p logs Within n ls f
 
-  -- what came out, by the boxes
-  abbrev outIn′ : (ℕ → Box) → ℕ → List Event
-  outIn′ f t = orNone (outIn (f (outBox t) .bytes))
+  abbrev Old : (ℕ → Box) → List ℕ → Type 0
+  Old f x = R.Old logs f x
 
-  abbrev cameIn : (ℕ → Box) → Ledger → List Event
-  cameIn f x = outsOf (outIn′ f) (x .pages) ++ x .tail
+  abbrev OldBox : List (List Entry) → ℕ → List ℕ → Type 0
+  OldBox ls l x = R.OldBox (p .late) ls l x
+
+  abbrev OldLedger : List (List Entry) → (ℕ → Box) → List ℕ → Type 0
+  OldLedger ls f x = R.OldLedger logs ls f x
+
+  abbrev OldLog : List (List Entry) → (ℕ → Box) → ℕ → List ℕ → Type 0
+  OldLog ls f l x = R.OldLog (p .late) logs ls f l x
+
+  abbrev Floor : List (List Entry) → (ℕ → Box) → List ℕ → Type 0
+  Floor ls f fl = R.Floor logs ls f fl
+
+  abbrev Spent : List ℕ → ℕ → Type 0
+  Spent x b = R.Spent logs x b
 
   came-is : (n : ℕ) (ls : List (List Entry)) (f : ℕ → Box) (r : Right n ls f) → cameIn f (r .book .ledger) ≡ cameOut (r .book)
   unfolding orNone
   came-is n ls f r = ap (λ (es : List Event). es ++ r .book .ledger .tail) (outs-same (r .book .out) (outIn′ f) (r .book .ledger .pages) (λ t h. ap orNone (r .out t h .1)))
-
-  -- AN OLD LEDGER
-  record Old (f : ℕ → Box) (x : List ℕ) : Type 0 where
-    old : Ledger
-    now : Ledger
-    reads : ledgerOr logs x ≡ just old
-    is : ledgerOr logs (f 0 .bytes) ≡ just now
-    taken : (l : ℕ) → takenOf l (old .logs) .taken ≤ takenOf l (now .logs) .taken
-    pages : old .pages ≤ now .pages
-    more : (es : List Event) × (cameIn f now ≡ cameIn f old ++ es)
-
-  record OldBox (ls : List (List Entry)) (l : ℕ) (x : List ℕ) : Type 0 where
-    box : LogBox
-    reads : logOr x ≡ just box
-    once : HeldOnce (p .late) (logOf l ls) box
-
-  abbrev OldLog : List (List Entry) → (ℕ → Box) → ℕ → List ℕ → Type 0
-  OldLog ls f l x = l < logs → OldBox ls l x
-
-  abbrev Floor : List (List Entry) → (ℕ → Box) → List ℕ → Type 0
-  Floor ls f fl = (y : Ledger) → ledgerOr logs (f 0 .bytes) ≡ just y → (l : ℕ) → floorOf l fl ≤ takenOf l (y .logs) .taken
-
-  abbrev Page′ : Ledger → ℕ → Type 0
-  Page′ y b = ((k : ℕ) × (k < y .queue .next) × (b ≡ rowBox k)) ⊎ ((t : ℕ) × (t < y .pages) × (b ≡ outBox t))
-
-  abbrev Spent : List ℕ → ℕ → Type 0
-  Spent x b = (y : Ledger) × (ledgerOr logs x ≡ just y) × Page′ y b
-
-  abbrev OldLedger : List (List Entry) → (ℕ → Box) → List ℕ → Type 0
-  OldLedger ls f x = Old f x
 
   -- WHAT STAYS, from one ledger to a later one
   record On (f f′ : ℕ → Box) (now now′ : Ledger) : Type 0 where
@@ -350,7 +325,7 @@ module _ (z : Sizes) (zo : SizesOk z) (p : Plan) (fine : PlanFine p) (logs : ℕ
   mine : (i c s : ℕ) (fl : List ℕ) (l : ℕ) (es : List Entry) (b : LogBox) → i < 64 → length (b .served) ≡ workers → servedOf i (batched (p .late) (floorOf l fl) i (record { life = c; serial = s }) es b .served) ≡ record { life = c; serial = s }
   mine i c s fl l es b h n = ap (servedOf i) (batch-served (p .late) (floorOf l fl) i (record { life = c; serial = s }) es b) ∙ served-set i (record { life = c; serial = s }) (b .served) (omega (arith, h, n))
 
-  has-new : (ls : List (List Entry)) (f : ℕ → Box) (n i c s l : ℕ) (fl old bs : List ℕ) (es : List Entry) → n < L .bound → l < logs → OldLog ls f l old → Tag n i c s → O .adds fl i c s l old es ≡ gives bs → O .has bs i c s ≡ true
+  has-new : (ls : List (List Entry)) (f : ℕ → Box) (n i c s l : ℕ) (fl old bs : List ℕ) (es : List Entry) → n < bound → l < logs → OldLog ls f l old → Tag n i c s → O .adds fl i c s l old es ≡ gives bs → O .has bs i c s ≡ true
   unfolding hasBy
   has-new ls f n i c s l fl old bs es h hl o t e =
       let b : LogBox = o hl .box in
@@ -359,7 +334,7 @@ module _ (z : Sizes) (zo : SizesOk z) (p : Plan) (fine : PlanFine p) (logs : ℕ
       ap (λ (m : Maybe LogBox). hasBy m i c s) (a .reads) ∙ and-from (eqb (servedOf i (batched (p .late) (floorOf l fl) i (record { life = c; serial = s }) es b .served) .life) c) (eqb (servedOf i (batched (p .late) (floorOf l fl) i (record { life = c; serial = s }) es b .served) .serial) s)
         (eq-eqb (servedOf i (batched (p .late) (floorOf l fl) i (record { life = c; serial = s }) es b .served) .life) c (ap (λ (x : Served). x .life) q)) (eq-eqb (servedOf i (batched (p .late) (floorOf l fl) i (record { life = c; serial = s }) es b .served) .serial) s (ap (λ (x : Served). x .serial) q))
 
-  has-mine : (ls : List (List Entry)) (f : ℕ → Box) (n i c s l : ℕ) (fl old bs : List ℕ) (es : List Entry) → n < L .bound → l < logs → OldLog ls f l old → Tag n i c s → O .adds fl i c s l old es ≡ gives bs → (d t : ℕ) → 1 ≤ t → O .has bs i d t ≡ true → (d ≡ c) × (t ≡ s)
+  has-mine : (ls : List (List Entry)) (f : ℕ → Box) (n i c s l : ℕ) (fl old bs : List ℕ) (es : List Entry) → n < bound → l < logs → OldLog ls f l old → Tag n i c s → O .adds fl i c s l old es ≡ gives bs → (d t : ℕ) → 1 ≤ t → O .has bs i d t ≡ true → (d ≡ c) × (t ≡ s)
   unfolding hasBy
   has-mine ls f n i c s l fl old bs es h hl o tg e d t ht g =
       let b : LogBox = o hl .box in
@@ -369,7 +344,7 @@ module _ (z : Sizes) (zo : SizesOk z) (p : Plan) (fine : PlanFine p) (logs : ℕ
       let k : (eqb (x .life) d ≡ true) × (eqb (x .serial) t ≡ true) = and-parts (eqb (x .life) d) (eqb (x .serial) t) (sym (ap (λ (m : Maybe LogBox). hasBy m i d t) (a .reads)) ∙ g) in
       (sym (eqb-true (x .life) d (k .0)) ∙ ap (λ (y : Served). y .life) q, sym (eqb-true (x .serial) t (k .1)) ∙ ap (λ (y : Served). y .serial) q)
 
-  has-other : (ls : List (List Entry)) (f : ℕ → Box) (n i c s l : ℕ) (fl old bs : List ℕ) (es : List Entry) → n < L .bound → l < logs → OldLog ls f l old → Tag n i c s → O .adds fl i c s l old es ≡ gives bs → (j d t : ℕ) → (j ≡ i → ⊥) → O .has bs j d t ≡ O .has old j d t
+  has-other : (ls : List (List Entry)) (f : ℕ → Box) (n i c s l : ℕ) (fl old bs : List ℕ) (es : List Entry) → n < bound → l < logs → OldLog ls f l old → Tag n i c s → O .adds fl i c s l old es ≡ gives bs → (j d t : ℕ) → (j ≡ i → ⊥) → O .has bs j d t ≡ O .has old j d t
   unfolding hasBy
   has-other ls f n i c s l fl old bs es h hl o tg e j d t ne =
       let b : LogBox = o hl .box in
@@ -391,7 +366,7 @@ module _ (z : Sizes) (zo : SizesOk z) (p : Plan) (fine : PlanFine p) (logs : ℕ
   same-came : (f f′ : ℕ → Box) (y : Ledger) → ((t : ℕ) → t < y .pages → f′ (outBox t) .bytes ≡ f (outBox t) .bytes) → cameIn f′ y ≡ cameIn f y ++ []
   same-came f f′ y h = ap (λ (es : List Event). es ++ y .tail) (outs-same (outIn′ f) (outIn′ f′) (y .pages) (λ t i. ap (λ (bs : List ℕ). orNone (outIn bs)) (h t i))) ∙ sym (append-nil (cameIn f y))
 
-  put-ok : {n : ℕ} {ls : List (List Entry)} {f : ℕ → Box} (i c s l e : ℕ) (fl bs : List ℕ) (es : List Entry) → n < L .bound → Right n ls f → l < logs → Floor ls f fl → Tag n i c s → ((x : Entry) → List·Memᴰ x es → T (entryOk x)) → length es ≤ 8 → O .adds fl i c s l (f (logBox l) .bytes) es ≡ gives bs →
+  put-ok : {n : ℕ} {ls : List (List Entry)} {f : ℕ → Box} (i c s l e : ℕ) (fl bs : List ℕ) (es : List Entry) → n < bound → Right n ls f → l < logs → Floor ls f fl → Tag n i c s → ((x : Entry) → List·Memᴰ x es → T (entryOk x)) → length es ≤ 8 → O .adds fl i c s l (f (logBox l) .bytes) es ≡ gives bs →
     Right (suc n) (putAll l es ls) (at (logBox l) (record { edition = e + 1; bytes = bs }) f) × Stays OldLedger OldLog Floor Spent ls f (putAll l es ls) (at (logBox l) (record { edition = e + 1; bytes = bs }) f)
   put-ok {n} {ls} {f} i c s l e fl bs es hn r hl fo tg ok few ad = (right, stays-on ls (putAll l es ls) f f′ (x .ledger) (x .ledger) on (λ k y o h. let b : OldBox ls k y = o h in record { box = b .box; reads = b .reads; once = old-stays (p .late) l k ls es (b .box) (b .once) }))
     where
@@ -429,7 +404,7 @@ module _ (z : Sizes) (zo : SizesOk z) (p : Plan) (fine : PlanFine p) (logs : ℕ
       on = record { is = r .ledger; is′ = ap (λ (y : Box). ledgerOr logs (y .bytes)) zero-other ∙ r .ledger; taken = λ k. omega arith; next = omega arith; pages = omega arith; outs = λ t h. ap (λ (y : Box). y .bytes) (out-other t); more = ([], same-came f f′ (x .ledger) (λ t h. ap (λ (y : Box). y .bytes) (out-other t))) }
 
   -- A PAGE
-  page-ok : {n : ℕ} {ls : List (List Entry)} {f : ℕ → Box} (x : List ℕ) (a : Filling) → n < L .bound → Right n ls f → Now f (O .due (f 0 .bytes)) x → List·Memᴰ a (O .pages (f 0 .bytes) x) → f (a .box) .edition ≡ 0 →
+  page-ok : {n : ℕ} {ls : List (List Entry)} {f : ℕ → Box} (x : List ℕ) (a : Filling) → n < bound → Right n ls f → Now f (O .due (f 0 .bytes)) x → List·Memᴰ a (O .pages (f 0 .bytes) x) → f (a .box) .edition ≡ 0 →
     Right (suc n) ls (at (a .box) (record { edition = 1; bytes = a .bytes }) f) × Stays OldLedger OldLog Floor Spent ls f ls (at (a .box) (record { edition = 1; bytes = a .bytes }) f)
   page-ok {n} {ls} {f} x a hn r nw m ed = (right, stays-on ls ls f f′ (y .ledger) (y .ledger) on (λ k v o. o))
     where
@@ -465,7 +440,7 @@ module _ (z : Sizes) (zo : SizesOk z) (p : Plan) (fine : PlanFine p) (logs : ℕ
   -- THE LEDGER filled with that of a later book, whose new pages are there
   record Refill (n m : ℕ) (ls : List (List Entry)) (f : ℕ → Box) (r : Right n ls f) (bs : List ℕ) (y : Book) : Type 0 where
     sound : SoundBook z p ls y
-    within : L .Within m ls y
+    within : Within m ls y
     grows : Grows (r .book) y
     reads : ledgerOr logs bs ≡ just (y .ledger)
     log : (l : ℕ) → y .log l ≡ r .book .log l
@@ -515,7 +490,7 @@ module _ (z : Sizes) (zo : SizesOk z) (p : Plan) (fine : PlanFine p) (logs : ℕ
   not-false : (b : Bool) → not b ≡ true → b ≡ false
   not-false b e = not-true b e
 
-  take-ok : {n : ℕ} {ls : List (List Entry)} {f : ℕ → Box} (e l : ℕ) (x y : List ℕ) → n < L .bound → Right n ls f → O .due (f 0 .bytes) ≡ Rattle.book.specs.Interface.nothing → l < logs → OldLog ls f l x → O .take (f 0 .bytes) l x ≡ gives y →
+  take-ok : {n : ℕ} {ls : List (List Entry)} {f : ℕ → Box} (e l : ℕ) (x y : List ℕ) → n < bound → Right n ls f → O .due (f 0 .bytes) ≡ Rattle.book.specs.Interface.nothing → l < logs → OldLog ls f l x → O .take (f 0 .bytes) l x ≡ gives y →
     Right n ls (at 0 (record { edition = e + 1; bytes = y }) f) × Stays OldLedger OldLog Floor Spent ls f ls (at 0 (record { edition = e + 1; bytes = y }) f)
   unfolding takeBy
   take-ok {n} {ls} {f} e l x y hn r du hl ol tk = refilled n n ls f r y (takeInto z p l b v) e (record { sound = sound-take z p ls v l b fine (r .sound) (omega (arith, hl, r .count)) (o .once) new; within = L .take l b hn (r .sound) (r .within) rest hl (o .once) new; grows = gr;
@@ -539,7 +514,7 @@ module _ (z : Sizes) (zo : SizesOk z) (p : Plan) (fine : PlanFine p) (logs : ℕ
       gr-next = Rattle.book.proofs.Numbers.took-next z (p .stages) (Rattle.book.specs.Ledger.newEvents b (takenOf l (v .ledger .logs))) (takenOf l (v .ledger .logs) .taken) (v .ledger .queue)
 
   -- A STEP
-  step-ok : {n : ℕ} {ls : List (List Entry)} {f : ℕ → Box} (e : ℕ) (x : List ℕ) → n < L .bound → Right n ls f → Now f (O .due (f 0 .bytes)) x → ((a : Filling) → List·Memᴰ a (O .pages (f 0 .bytes) x) → (1 ≤ f (a .box) .edition) × (f (a .box) .bytes ≡ a .bytes)) →
+  step-ok : {n : ℕ} {ls : List (List Entry)} {f : ℕ → Box} (e : ℕ) (x : List ℕ) → n < bound → Right n ls f → Now f (O .due (f 0 .bytes)) x → ((a : Filling) → List·Memᴰ a (O .pages (f 0 .bytes) x) → (1 ≤ f (a .box) .edition) × (f (a .box) .bytes ≡ a .bytes)) →
     Right (suc n) ls (at 0 (record { edition = e + 1; bytes = O .after (f 0 .bytes) x }) f) × Stays OldLedger OldLog Floor Spent ls f ls (at 0 (record { edition = e + 1; bytes = O .after (f 0 .bytes) x }) f) × ((a : Filling) → List·Memᴰ a (O .pages (f 0 .bytes) x) → Spent (O .after (f 0 .bytes) x) (a .box))
   step-ok {n} {ls} {f} e x hn r nw there = (both .0, both .1, λ a m. (y .ledger, reads, spent a (called n ls f r x d a m)))
     where
@@ -659,11 +634,8 @@ module _ (z : Sizes) (zo : SizesOk z) (p : Plan) (fine : PlanFine p) (logs : ℕ
       parts : (length (firstOf most (dropOf from o)) ≤ most) × (firstOf most (dropOf from o) ≡ firstOf (length (firstOf most (dropOf from o))) (dropOf from o ++ dropOf (from - length o) more))
       parts = first-of-more most (dropOf from o) (dropOf (from - length o) more)
 
-  safe : Safe (real z p logs) p logs
-  safe = record {
-      bound = L .bound; far = L .far; Sound = Right; OldLedger = OldLedger; OldLog = OldLog; Floor = Floor; Spent = Spent; ledger-now = ledger-now; log-now = log-now; floor-none = floor-none; floor-raise = floor-raise; starts = starts; later = later′;
+  pub laws : Laws (real z p logs) p logs bound Right OldLedger OldLog Floor Spent
+  laws = record {
+      ledger-now = ledger-now; log-now = log-now; floor-none = floor-none; floor-raise = floor-raise; starts = starts; later = later′;
       due-page = due-page; pages-page = pages-page; answer-page = answer-page; pages-one = pages-one; spent-filled = spent-filled; due-spent = due-spent; pages-new = pages-new; answer-spent = answer-spent; has-none = has-none; has-new = has-new; has-mine = has-mine; has-other = has-other;
       put-ok = put-ok; page-ok = page-ok; step-ok = step-ok; same-ok = same-ok; take-ok = take-ok; answer-ok = answer-ok }
-
-pub real-safe : RealSafe
-real-safe z zo p fine logs L = safe z zo p fine logs L

@@ -77,19 +77,12 @@ pub record Stays (OldLedger : List (List Entry) → (ℕ → Box) → List ℕ �
   pub floor : (x : List ℕ) → Floor ls f x → Floor ls' f' x
   pub spent : (b : ℕ) → Spent (f 0 .bytes) b → Spent (f' 0 .bytes) b
 
--- THE LAWS
-pub record Safe (o : Ops) (p : Plan) (logs : ℕ) : Type 1 where
-  -- so many steps are right
-  pub bound : ℕ
-  pub far : 72057594037927936 ≤ bound
-  -- the boxes are right for the logs, after at most so many steps
-  pub Sound : ℕ → List (List Entry) → (ℕ → Box) → Type 0
-  -- of the logs and boxes as they are: an old ledger, an old box of a log, a floor not above what is taken
-  pub OldLedger : List (List Entry) → (ℕ → Box) → List ℕ → Type 0
-  pub OldLog : List (List Entry) → (ℕ → Box) → ℕ → List ℕ → Type 0
-  pub Floor : List (List Entry) → (ℕ → Box) → List ℕ → Type 0
-  -- the ledger is past the step that wrote that page
-  pub Spent : (ledger : List ℕ) → ℕ → Type 0
+-- THE LAWS, of
+--   Sound: the boxes are right for the logs, after at most so many steps, of which so many are right
+--   OldLedger, OldLog, Floor: of the logs and boxes as they are, an old ledger, an old box of a log, a floor not above what is taken
+--   Spent: the ledger is past the step that wrote that page
+pub record Laws (o : Ops) (p : Plan) (logs bound : ℕ) (Sound : ℕ → List (List Entry) → (ℕ → Box) → Type 0) (OldLedger : List (List Entry) → (ℕ → Box) → List ℕ → Type 0) (OldLog : List (List Entry) → (ℕ → Box) → ℕ → List ℕ → Type 0) (Floor : List (List Entry) → (ℕ → Box) → List ℕ → Type 0)
+  (Spent : List ℕ → ℕ → Type 0) : Type 0 where
   pub ledger-now : {n : ℕ} {ls : List (List Entry)} {f : ℕ → Box} → Sound n ls f → OldLedger ls f (f 0 .bytes)
   pub log-now : {n : ℕ} {ls : List (List Entry)} {f : ℕ → Box} → Sound n ls f → (l : ℕ) → OldLog ls f l (f (logBox l) .bytes)
   pub floor-none : (ls : List (List Entry)) (f : ℕ → Box) → Floor ls f []
@@ -122,3 +115,14 @@ pub record Safe (o : Ops) (p : Plan) (logs : ℕ) : Type 1 where
     Sound n ls (at 0 (record { edition = e + 1; bytes = y }) f) × Stays OldLedger OldLog Floor Spent ls f ls (at 0 (record { edition = e + 1; bytes = y }) f)
   pub answer-ok : {n : ℕ} {ls : List (List Entry)} {f : ℕ → Box} (from most : ℕ) (x : List ℕ) (got es : List Event) → Sound n ls f → OldLedger ls f x → Gathered o (λ b y. Spent (f 0 .bytes) b × (f b .bytes ≡ y)) from most x got → o .answer from most x got ≡ reply es →
     (j : ℕ) × (j ≤ most) × (es ≡ firstOf j (dropOf from (out p ls)))
+
+-- A BOOK that keeps them
+pub record Safe (o : Ops) (p : Plan) (logs : ℕ) : Type 1 where
+  pub bound : ℕ
+  pub far : 72057594037927936 ≤ bound
+  pub Sound : ℕ → List (List Entry) → (ℕ → Box) → Type 0
+  pub OldLedger : List (List Entry) → (ℕ → Box) → List ℕ → Type 0
+  pub OldLog : List (List Entry) → (ℕ → Box) → ℕ → List ℕ → Type 0
+  pub Floor : List (List Entry) → (ℕ → Box) → List ℕ → Type 0
+  pub Spent : List ℕ → ℕ → Type 0
+  pub laws : Laws o p logs bound Sound OldLedger OldLog Floor Spent

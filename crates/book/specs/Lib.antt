@@ -13,3 +13,4 @@ pub mod Interface
 pub mod Real
 pub mod Limits
 pub mod Small
+pub mod Right

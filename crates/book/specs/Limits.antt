@@ -9,19 +9,15 @@ use lib.ListN.{length}
 use Rattle.streams.specs.Meaning.{Event, Entry, Plan}
 use Rattle.streams.specs.Calls.{entryOk, empties}
 use Rattle.book.specs.Queue.{Write}
-use Rattle.book.specs.Due.{Sizes, SizesOk}
+use Rattle.book.specs.Due.{Sizes}
 use Rattle.book.specs.Ledger.{Served, LogBox, letGo, takenOf, Task, Rest, Want, wanted, isOld, OutWrite}
 use Rattle.book.specs.Words.{AreWords, writeLedger, writePage, writeOut, Filled}
-use Rattle.book.specs.Book.{Book, emptyBook, SoundBook, PlanFine, putAll, putBatch, takeInto, turnOf, afterTurn, HeldOnce, logOf}
+use Rattle.book.specs.Book.{Book, emptyBook, SoundBook, putAll, putBatch, takeInto, turnOf, afterTurn, HeldOnce, logOf}
 use Rattle.book.specs.Numbers.{Among}
-use Rattle.book.specs.Interface.{Tag, Safe}
-use Rattle.book.specs.Real.{real}
+use Rattle.book.specs.Interface.{Tag}
 
-pub record Limits (z : Sizes) (p : Plan) (logs : ℕ) : Type 1 where
-  pub bound : ℕ
-  pub far : 72057594037927936 ≤ bound
-  -- of a book that is right for the logs, after at most so many steps
-  pub Within : ℕ → List (List Entry) → Book → Type 0
+-- Within: of a book that is right for the logs, after at most so many steps
+pub record Limits (z : Sizes) (p : Plan) (logs bound : ℕ) (Within : ℕ → List (List Entry) → Book → Type 0) : Type 0 where
   pub starts : Within 0 (empties logs) (emptyBook logs)
   pub later : {n : ℕ} {ls : List (List Entry)} {x : Book} → Within n ls x → Within (suc n) ls x
   pub batch : {n : ℕ} {ls : List (List Entry)} {x : Book} (l floor i c s : ℕ) (es : List Entry) → n < bound → SoundBook z p ls x → Within n ls x → l < logs → floor ≤ takenOf l (x .ledger .logs) .taken → Tag n i c s → ((e : Entry) → List·Memᴰ e es → T (entryOk e)) → length es ≤ 8 →
@@ -34,7 +30,3 @@ pub record Limits (z : Sizes) (p : Plan) (logs : ℕ) : Type 1 where
   pub out-words : {n : ℕ} {ls : List (List Entry)} {x : Book} (k : Task) (w : OutWrite) → n < bound → SoundBook z p ls x → Within n ls x → wanted z (p .late) (x .ledger) ≡ Want k → Among w (turnOf z p k x .outs) → AreWords (writeOut (w .events))
   pub page-short : {n : ℕ} {ls : List (List Entry)} {x : Book} (k : Task) (w : Write) → SoundBook z p ls x → Within n ls x → wanted z (p .late) (x .ledger) ≡ Want k → Among w (turnOf z p k x .rows) → 8 * length (writePage (w .content)) ≤ 1048576
   pub out-short : {n : ℕ} {ls : List (List Entry)} {x : Book} (k : Task) (w : OutWrite) → SoundBook z p ls x → Within n ls x → wanted z (p .late) (x .ledger) ≡ Want k → Among w (turnOf z p k x .outs) → 8 * length (writeOut (w .events)) ≤ 1048576
-
--- THE THEOREM: within such limits the book on bytes keeps the laws that a worker needs
-abbrev pub RealSafe : Type 1
-RealSafe = (z : Sizes) → SizesOk z → (p : Plan) → PlanFine p → (logs : ℕ) → Limits z p logs → Safe (real z p logs) p logs
