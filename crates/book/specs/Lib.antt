@@ -1,0 +1,16 @@
+pub mod Rows
+pub mod Queue
+pub mod Held
+pub mod Flow
+pub mod Due
+pub mod Ledger
+pub mod Book
+pub mod Words
+pub mod Numbers
+pub mod Ends
+pub mod Table
+pub mod Interface
+pub mod Real
+pub mod Limits
+pub mod Small
+pub mod Right
