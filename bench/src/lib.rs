@@ -1,3 +1,2 @@
 //! The proved codec, called through its static library, beside the plain Rust one.
 pub mod proved;
-pub mod seeded;

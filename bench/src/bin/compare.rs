@@ -1,7 +1,7 @@
 //! Checks a table of bytes, worked out by hand, through both codecs, and compares these on bytes made from seeds by
 //! changing, cutting and joining. Prints what differs, and as its last line how many passed and failed.
 use bench::proved;
-use bench::seeded::Seeded;
+use oracle::random::Random;
 use oracle::codec::{self as plain, Call, Line, Reply, Traffic};
 
 #[derive(Default)]
@@ -99,38 +99,38 @@ fn table_row(row: &str, count: &mut Count) {
     }
 }
 
-fn some_call(seeded: &mut Seeded) -> Call {
-    let log = seeded.below(256) as u8;
-    match seeded.below(4) {
-        0 => Call::Put { log, time: seeded.word(), key: seeded.word(), value: seeded.word() },
-        1 => Call::Still { log, time: seeded.word() },
-        2 => Call::Out { from: seeded.word(), most: (1020 + seeded.below(10)) as u16 * seeded.below(2) as u16 },
-        _ => Call::Drop { before: seeded.word() },
+fn some_call(random: &mut Random) -> Call {
+    let log = random.below(256) as u8;
+    match random.below(4) {
+        0 => Call::Put { log, time: random.word(), key: random.word(), value: random.word() },
+        1 => Call::Still { log, time: random.word() },
+        2 => Call::Out { from: random.word(), most: (1020 + random.below(10)) as u16 * random.below(2) as u16 },
+        _ => Call::Drop { before: random.word() },
     }
 }
 
-fn some_reply(seeded: &mut Seeded) -> Reply {
-    match seeded.below(4) {
-        0 => Reply::Refused([1, 2, 3, 4, 11, 12][seeded.below(6)]),
+fn some_reply(random: &mut Random) -> Reply {
+    match random.below(4) {
+        0 => Reply::Refused([1, 2, 3, 4, 11, 12][random.below(6)]),
         1 => Reply::Yes,
         2 => {
-            let event = |s: &mut Seeded| plain::Event { time: s.word(), key: s.word(), value: s.word() };
-            Reply::Out((0..seeded.below(6)).map(|_| event(seeded)).collect())
+            let event = |s: &mut Random| plain::Event { time: s.word(), key: s.word(), value: s.word() };
+            Reply::Out((0..random.below(6)).map(|_| event(random)).collect())
         }
         _ => Reply::Full,
     }
 }
 
 /// One change: a byte, a byte too many, a byte too few, or none.
-fn changed(bytes: &[u8], seeded: &mut Seeded) -> Vec<u8> {
+fn changed(bytes: &[u8], random: &mut Random) -> Vec<u8> {
     let mut bytes = bytes.to_vec();
-    match seeded.below(4) {
+    match random.below(4) {
         0 if !bytes.is_empty() => {
-            let i = if seeded.below(2) == 0 { 0 } else { seeded.below(bytes.len()) };
-            bytes[i] = if seeded.below(2) == 0 { seeded.below(6) as u8 } else { seeded.next() as u8 };
+            let i = if random.below(2) == 0 { 0 } else { random.below(bytes.len()) };
+            bytes[i] = if random.below(2) == 0 { random.below(6) as u8 } else { random.next() as u8 };
         }
-        1 => bytes.push(seeded.next() as u8),
-        2 => bytes.truncate(seeded.below(bytes.len() + 1)),
+        1 => bytes.push(random.next() as u8),
+        2 => bytes.truncate(random.below(bytes.len() + 1)),
         _ => {}
     }
     bytes
@@ -184,25 +184,25 @@ fn lines(pieces: &[&[u8]], read: impl Fn(&[u8]) -> Line) -> (Vec<String>, String
 }
 
 fn compare_streams(seed: u64, count: &mut Count) {
-    let mut seeded = Seeded::new(seed);
+    let mut random = Random::new(seed);
     let traffic = if seed % 2 == 0 { Traffic::Calls } else { Traffic::Replies };
     let mut stream = Vec::new();
-    for _ in 0..1 + seeded.below(6) {
+    for _ in 0..1 + random.below(6) {
         let mut body = Vec::new();
         match traffic {
-            Traffic::Calls => plain::encode(some_call(&mut seeded), &mut body),
-            Traffic::Replies => plain::encode_reply(&some_reply(&mut seeded), &mut body),
+            Traffic::Calls => plain::encode(some_call(&mut random), &mut body),
+            Traffic::Replies => plain::encode_reply(&some_reply(&mut random), &mut body),
         }
-        let body = if seeded.below(3) == 0 { changed(&body, &mut seeded) } else { body };
-        let number = seeded.word();
+        let body = if random.below(3) == 0 { changed(&body, &mut random) } else { body };
+        let number = random.word();
         let mut out = vec![0; 12 + body.len()];
         let n = proved::write_line(number, &body, &mut out);
         let mut line = Vec::new();
         plain::write_line(number, &body, &mut line);
         count.note("a written line differs", &line, n == line.len() && out == line);
-        stream.extend(if seeded.below(8) == 0 { changed(&line, &mut seeded) } else { line });
+        stream.extend(if random.below(8) == 0 { changed(&line, &mut random) } else { line });
     }
-    let cuts = [seeded.below(stream.len() + 1), seeded.below(stream.len() + 1)];
+    let cuts = [random.below(stream.len() + 1), random.below(stream.len() + 1)];
     let (a, b) = (cuts[0].min(cuts[1]), cuts[0].max(cuts[1]));
     let whole = lines(&[&stream], |bytes| plain::read_line(traffic, bytes));
     let pieces = [&stream[..a], &stream[a..b], &stream[b..]];
@@ -220,14 +220,14 @@ fn main() {
         table_row(row, &mut count);
     }
     for seed in 0..4000 {
-        let mut seeded = Seeded::new(seed);
+        let mut random = Random::new(seed);
         let mut bytes = Vec::new();
         match seed % 2 {
-            0 => plain::encode(some_call(&mut seeded), &mut bytes),
-            _ => plain::encode_reply(&some_reply(&mut seeded), &mut bytes),
+            0 => plain::encode(some_call(&mut random), &mut bytes),
+            _ => plain::encode_reply(&some_reply(&mut random), &mut bytes),
         }
-        let logs = 1 + seeded.below(256) as u16;
-        compare_bodies(&changed(&bytes, &mut seeded), logs, &mut count);
+        let logs = 1 + random.below(256) as u16;
+        compare_bodies(&changed(&bytes, &mut random), logs, &mut count);
     }
     for seed in 0..1500 {
         compare_streams(seed, &mut count);

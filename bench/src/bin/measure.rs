@@ -1,7 +1,7 @@
 //! Decoding and encoding of calls: the proved codec against the plain Rust one, in one run, both built for release.
 //! Buffers are reused and not cleared. Prints nanoseconds for each call, the best of nine rounds, and the ratio.
 use bench::proved;
-use bench::seeded::Seeded;
+use oracle::random::Random;
 use oracle::codec::{self as plain, Call};
 use std::hint::black_box;
 use std::time::Instant;
@@ -28,12 +28,12 @@ fn row(what: &str, proved: f64, plain: f64) {
 }
 
 fn main() {
-    let mut seeded = Seeded::new(1);
+    let mut random = Random::new(1);
     let calls: Vec<Call> = (0..CALLS)
-        .map(|_| match seeded.below(8) {
-            0 => Call::Still { log: 3, time: seeded.next() },
-            1 => Call::Out { from: seeded.next(), most: 100 },
-            _ => Call::Put { log: 1, time: seeded.next(), key: seeded.next(), value: seeded.next() },
+        .map(|_| match random.below(8) {
+            0 => Call::Still { log: 3, time: random.next() },
+            1 => Call::Out { from: random.next(), most: 100 },
+            _ => Call::Put { log: 1, time: random.next(), key: random.next(), value: random.next() },
         })
         .collect();
     let encoded: Vec<Vec<u8>> = calls

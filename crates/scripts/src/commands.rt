@@ -2,6 +2,7 @@
 use plans::entries::Entry;
 use plans::entries::EntryDebug;
 use plans::entries::EntryPartialEq;
+use std::fmt;
 
 #[derive(Clone, Copy, PartialEq, Eq, Debug)]
 pub enum Command {
@@ -43,4 +44,31 @@ pub enum Complaint {
     NoNumber(Field),
     // Something stands behind the command.
     Extra,
+}
+
+pub impl fmt::Display for Field as FieldDisplay {
+    fn fmt<W: fmt::Write>(&self, f: &mut fmt::Formatter<W>) -> fmt::Result {
+        f.write_str(
+            match self {
+                Field::Count => "how many logs",
+                Field::Log => "the log",
+                Field::Time => "the time",
+                Field::Key => "the key",
+                Field::Value => "the value",
+                Field::From => "from where",
+                Field::Most => "how many",
+                Field::Before => "before what",
+            },
+        )
+    }
+}
+
+pub impl fmt::Display for Complaint as ComplaintDisplay {
+    fn fmt<W: fmt::Write>(&self, f: &mut fmt::Formatter<W>) -> fmt::Result {
+        match self {
+            Complaint::Unknown => f.write_str("unknown command"),
+            Complaint::NoNumber(field) => write!(f, "expected a number: {field}"),
+            Complaint::Extra => f.write_str("something stands behind the command"),
+        }
+    }
 }

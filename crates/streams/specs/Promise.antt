@@ -18,7 +18,7 @@ room = 68719476736
 abbrev pub streams : Plan → (logs : ℕ) → (Call → Bool) → Keeper Call Reply
 streams p n can = record { State = State; start = begins n; May = Answers p can room; busy = No 11 }
 
--- in the first landings plans have one stage
+-- which plans a promise is about: those of one stage, or all
 abbrev pub Plans : Type 1
 Plans = Plan → Type 0
 
@@ -48,7 +48,7 @@ abbrev pub Whole : {M : Type 0} → Plans → (Call → Bool) → Code M → Typ
 Whole {M} plans can h =
     ((p : Plan) → plans p → T (planOk p) → (logs : ℕ) → 1 ≤ logs → logs ≤ 256 → OneBook (streams p logs can) (h p logs) × BusyAtNine (streams p logs can) (h p logs) × OneIsEnough (h p logs)) × ComesOut plans can h
 
--- the first landings show this; each later one shows Whole for more
+-- the core: plans of one stage, and the calls that are built
 abbrev pub CoreWhole : {M : Type 0} → Code M → Type 0
 CoreWhole {M} h = Whole OneStage core h
 

@@ -1,10 +1,10 @@
-//! Numbers from a seed, the same on every machine (xorshift).
+//! Numbers by chance from a seed, the same on every machine (xorshift).
 
-pub struct Seeded(u64);
+pub struct Random(u64);
 
-impl Seeded {
-    pub fn new(seed: u64) -> Seeded {
-        Seeded(seed.wrapping_mul(0x9e37_79b9_7f4a_7c15) | 1)
+impl Random {
+    pub fn new(seed: u64) -> Random {
+        Random(seed.wrapping_mul(0x9e37_79b9_7f4a_7c15) | 1)
     }
 
     pub fn next(&mut self) -> u64 {
@@ -16,6 +16,10 @@ impl Seeded {
 
     pub fn below(&mut self, n: usize) -> usize {
         (self.next() >> 11) as usize % n
+    }
+
+    pub fn one<'a, T>(&mut self, of: &'a [T]) -> &'a T {
+        &of[self.below(of.len())]
     }
 
     /// A word that is small, near 2^62, or anything.

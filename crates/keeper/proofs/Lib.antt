@@ -1,0 +1,2 @@
+mod Allowed
+mod Entries
