@@ -1,7 +1,9 @@
 // The program `plan`: reads a plan from the file that its argument names, or else from standard input, and prints it as
 // docs/PLANS.md says; or says on standard error where and why it is none, and ends with status 1.
-ghost use lib.ListN.{length};
-ghost use Prim.Native.Nat.{_≤_};
+ghost use lib.ListN.{length, getD};
+ghost use mathlib.Core.Path.{_≡_};
+ghost use Prim.Native.Nat.{_-_, _<_, _≤_};
+ghost use Rattle.plan.specs.Lines.{NoLineEnd};
 use grammar::refusals::Refusal;
 use grammar::refusals::WhyDisplay;
 use print::print;
@@ -103,7 +105,9 @@ fn complain(rt: &LibcRuntime, bytes: &[u8], refusal: Refusal) -> Result<(), Stop
 // Where the line of the place `at` begins.
 fn begin_of_line(bytes: &[u8], at: usize) -> usize
     requires { ⌜ at ≤ length (now bytes) ⌝ }
-    ensures { λ r. ⌜ r ≤ at ⌝ }
+    ensures before { λ r. ⌜ r ≤ at ⌝ }
+    ensures line { λ r. ⌜ NoLineEnd (now (bytes .entry)) r at ⌝ }
+    ensures first { λ r. ⌜ (0 < r → getD (now (bytes .entry)) (r - 1) 0 ≡ 10) ⌝ }
 {
     let mut i = at;
     while i > 0 && bytes[i - 1] != b'\n' {
@@ -115,7 +119,10 @@ fn begin_of_line(bytes: &[u8], at: usize) -> usize
 // Where the line of the place `at` ends, before its line end.
 fn end_of_line(bytes: &[u8], at: usize) -> usize
     requires { ⌜ at ≤ length (now bytes) ⌝ }
-    ensures { λ r. ⌜ at ≤ r ⌝ ∗ ⌜ r ≤ length (now (bytes .entry)) ⌝ }
+    ensures behind { λ r. ⌜ at ≤ r ⌝ }
+    ensures within { λ r. ⌜ r ≤ length (now (bytes .entry)) ⌝ }
+    ensures line { λ r. ⌜ NoLineEnd (now (bytes .entry)) at r ⌝ }
+    ensures last { λ r. ⌜ (r < length (now (bytes .entry)) → getD (now (bytes .entry)) r 0 ≡ 10) ⌝ }
 {
     let mut i = at;
     while i < bytes.len() && bytes[i] != b'\n' {
