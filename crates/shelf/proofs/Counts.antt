@@ -1,14 +1,14 @@
 -- What a hand has in mind waits at it, and how much that is. For any hand.
 use mathlib.Core.Path.{_≡_, refl, sym, ap, subst, _∙_}
-use mathlib.Core.Logic.{_⊎_, inl, inr, ⊎-elim}
-use mathlib.Core.Bool.{Bool, true, false, cond, _&&_, _||_, not}
-use mathlib.Core.List.{List, [], _∷_, _++_, List·Memᴰ, List·Memᴰ·head, List·Memᴰ·tail, List·Memᴰ·not-nil, List·Memᴰ·cases-cons}
-use Prim.Native.Nat.{ℕ, zero, suc, _+_, _≤_, _<_}
+use mathlib.Core.Logic.{_⊎_, ⊎-elim}
+use mathlib.Core.Bool.{true, cond, _&&_, _||_}
+use mathlib.Core.List.{List, [], _∷_, _++_, List·Memᴰ, List·Memᴰ·head, List·Memᴰ·tail}
+use Prim.Native.Nat.{ℕ, _+_, _≤_, _<_}
 use native.Mathlib.Omega.{arith}
 use lib.Dec.{eqb, T, T-not}
 use lib.ListN.{length}
-use Rattle.std.proofs.shelf.Tests.{eqb-true, eqb-false, eq-eqb, cond-true, cond-false, cond-both, and-parts, or-left, or-right}
-use Rattle.streams.specs.Hands.{Box, In, Ask, Out, To, Show, Fill, Tell, Hand, Way, Stand, away, here, Seen, at, Scene, Waits, settled, without, emptied, countAt, isUsed, called, told, tells, Comes, a-word, a-box, a-filling, a-beat, Goes, first, turns, asked, showsBox, fills, doesntFill, goes, comes}
+use Rattle.std.proofs.shelf.Tests.{eqb-true, eq-eqb, cond-true, cond-false, cond-both, and-parts, or-left, or-right}
+use Rattle.streams.specs.Hands.{In, Ask, Out, To, Show, Fill, Tell, Hand, Way, away, here, Seen, Scene, Waits, settled, without, emptied, countAt, isUsed, called, tells, Comes, a-word, a-box, a-filling, a-beat, Goes, first, turns, asked, showsBox, fills, doesntFill, goes, comes}
 use Rattle.shelf.proofs.Places.{at-case, at-hands, not-here}
 use Rattle.shelf.proofs.Latelooks.{Less, taken, later, less-of, less-rest}
 

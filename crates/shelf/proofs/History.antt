@@ -1,14 +1,11 @@
 -- The history of every box, for any hand: what is shown was so, what is said to be done was done.
-use mathlib.Core.Path.{_≡_, refl, sym, ap, ap₂, subst, subst₃, _∙_}
-use mathlib.Core.Logic.{_⊎_, inl, inr, ⊎-elim}
-use mathlib.Core.Bool.{Bool, true, false, cond, _&&_, _||_, not}
-use mathlib.Core.List.{List, [], _∷_, _++_, List·Memᴰ, List·Memᴰ·head, List·Memᴰ·tail, List·Memᴰ·not-nil, List·Memᴰ·cases-cons, List·Memᴰ·append-cases, Memᴰ·append-left, Memᴰ·append-right, append-assoc}
-use Prim.Native.Nat.{ℕ, zero, suc, _+_, _≤_, _<_}
+use mathlib.Core.Path.{_≡_, refl, sym, ap, subst, _∙_}
+use mathlib.Core.Bool.{true, false, cond, not}
+use mathlib.Core.List.{List, [], _∷_, _++_, List·Memᴰ, List·Memᴰ·tail, Memᴰ·append-right}
+use Prim.Native.Nat.{ℕ, _+_, _≤_}
 use native.Mathlib.Omega.{arith}
-use lib.Dec.{eqb, leb, T}
-use lib.ListN.{length}
-use Rattle.std.proofs.shelf.Tests.{eqb-true, eqb-false, cond-both}
-use Rattle.streams.specs.Hands.{Box, In, Ask, Out, To, Show, Fill, Tell, Hand, Way, word, wantsBox, wantsFill, shows, says, Seen, at, Scene, sent, answered, fillable, Goes, first, turns, asked, showsBox, fills, doesntFill, goes, comes}
+use lib.Dec.{eqb, T}
+use Rattle.streams.specs.Hands.{Box, Ask, Out, To, Show, Fill, Tell, Hand, Way, word, wantsBox, wantsFill, shows, says, Seen, at, Scene, sent, fillable, Goes, first, turns, asked, showsBox, fills, doesntFill, goes, comes}
 use Rattle.shelf.proofs.Places.{all-cons, all-none, all-append, at-self, at-one, fillable-edition}
 
 -- all that a turn sends are words and requests of that life

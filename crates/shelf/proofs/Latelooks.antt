@@ -1,8 +1,7 @@
 -- A book up to the order of its lists; and the book with late looks, which tells nothing that a book would not. For any keeper.
 use mathlib.Core.Path.{_≡_, refl, sym, ap, subst, _∙_}
 use mathlib.Core.Logic.{_⊎_, inl, inr, ⊎-elim}
-use mathlib.Core.List.{List, [], _∷_, _++_, map, List·Memᴰ, List·Memᴰ·head, List·Memᴰ·tail, List·Memᴰ·not-nil, List·Memᴰ·cases-cons}
-use Prim.Native.Nat.{ℕ}
+use mathlib.Core.List.{List, [], _∷_, _++_, List·Memᴰ, List·Memᴰ·head, List·Memᴰ·tail, List·Memᴰ·not-nil, List·Memᴰ·cases-cons}
 use Rattle.streams.specs.Hands.{Seen, called, told, Keeper, Open, Ready, Book}
 use Rattle.streams.specs.Hands as hands
 use Rattle.shelf.specs.Moments.{Pending, replyTo, LateBook, empty, comesIn, looks, isLate, isDone, goesOut, handedBack}

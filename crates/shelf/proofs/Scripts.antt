@@ -8,7 +8,7 @@ use native.Mathlib.Omega.{arith}
 use lib.Dec.{eqb, leb, T}
 use lib.ListN.{length}
 use Rattle.std.proofs.shelf.Tests.{eq-eqb, ne-eqb}
-use Rattle.streams.specs.Hands.{Box, In, Shown, Filled, Out, Hand, Way, wantsBox, wantsFill, shows, says, here, Seen, at, Scene, sent, tells, turned, answered, fillable, allBytes, Comes, a-word, a-box, a-filling, a-beat, Alone, stay, turn, shown, filled, notFilled, Goes, turns, showsBox, fills, doesntFill}
+use Rattle.streams.specs.Hands.{Box, In, Shown, Filled, Hand, Way, wantsBox, wantsFill, shows, says, here, Seen, at, Scene, sent, tells, turned, answered, fillable, allBytes, Comes, a-word, a-box, a-filling, a-beat, Alone, stay, turn, shown, filled, notFilled, Goes, turns, showsBox, fills, doesntFill}
 use Rattle.shelf.proofs.Places.{at-self}
 
 -- bytes that a box can hold

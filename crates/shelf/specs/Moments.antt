@@ -7,7 +7,6 @@ use mathlib.Core.Logic.{_⊎_}
 use mathlib.Core.Bool.{Bool, true, false}
 use mathlib.Core.List.{List, [], _∷_, _++_, List·Memᴰ}
 use Prim.Native.Nat.{ℕ, zero, suc, _+_, _<_, _≤_}
-use lib.Dec.{T}
 use Rattle.streams.specs.Meaning.{Plan}
 use Rattle.streams.specs.Calls.{Call, Reply, State}
 use Rattle.streams.specs.Hands.{Box, In, Ask, Out, To, Show, Fill, Tell, Hand, Way, word, wantsBox, wantsFill, shows, says, away, here, Seen, called, told, Scene, Waits, fillable, Goes, first, turns, asked, showsBox, fills, doesntFill, goes, comes, Alone, Keeper, Open, Ready, Book}

@@ -1,18 +1,15 @@
 -- The worker alone: what it asks is answered, two steps at a time; each run is also one that can happen, so that all that is known of what can happen is known along it.
-use mathlib.Core.Path.{_≡_, refl, sym, ap, subst, subst₂, _∙_}
-use mathlib.Core.Logic.{_⊎_, inl, inr, ⊎-elim}
-use mathlib.Core.Bool.{Bool, true, false, cond, _&&_, _||_, not}
-use mathlib.Core.List.{List, [], _∷_, _++_, List·Memᴰ, List·Memᴰ·head, List·Memᴰ·tail, Memᴰ·append-left, Memᴰ·append-right, List·Memᴰ·cases-cons, append-assoc}
-use Prim.Native.Nat.{ℕ, zero, suc, _+_, _*_, _≤_, _<_}
+use mathlib.Core.Path.{_≡_, refl, sym, ap, subst, _∙_}
+use mathlib.Core.Bool.{Bool, true, false, cond, _||_, not}
+use mathlib.Core.List.{List, [], _∷_, _++_, List·Memᴰ, List·Memᴰ·head, List·Memᴰ·tail, Memᴰ·append-left}
+use Prim.Native.Nat.{ℕ, suc, _+_, _≤_, _<_}
 use native.Mathlib.Omega.{arith}
-use lib.Dec.{eqb, ltb, leb, T}
-use lib.ListN.{length}
-use Rattle.std.proofs.shelf.Tests.{eqb-true, eqb-false, eq-eqb, ne-eqb, cond-true, cond-false, cond-both, cases-bool}
-use Rattle.streams.specs.Meaning.{Event, Entry, Plan}
+use lib.Dec.{eqb}
+use Rattle.std.proofs.shelf.Tests.{eq-eqb, cond-true, cond-false}
 use Rattle.streams.specs.Calls.{Call, Reply}
-use Rattle.streams.specs.Hands.{Box, In, From, Shown, Filled, Ask, Beat, Out, Hand, Way, wantsBox, wantsFill, shows, says, here, Seen, told, at, Scene, sent, tells, turned, answered, fillable, allBytes, Comes, a-word, a-box, a-filling, a-beat, Alone, stay, turn, shown, filled, notFilled, Goes, turns, showsBox, fills, doesntFill}
+use Rattle.streams.specs.Hands.{Box, In, Shown, Filled, Beat, Way, wantsBox, wantsFill, here, Seen, told, at, Scene, Comes, a-beat, Goes}
 use Rattle.interface.specs.Ops.{Ops}
-use Rattle.worker.specs.Worker.{Job, Batch, Phase, Keep, Mind, Told, Asks, none', show, fill, Step, hearing, stays, isRest, start, onShown, onFilled, acts, telling, asking', turnOf, worker}
+use Rattle.worker.specs.Worker.{Mind, Told, Asks, none', show, fill, Step, hearing, stays, isRest, start, onShown, onFilled, acts, worker}
 use Rattle.shelf.proofs.Scripts.{Fits, Script, begin, under-way, Turned, take-turn, Answered, be-shown, fail-to-fill}
 use Rattle.shelf.proofs.Scripts as scripts
 use Rattle.worker.proofs.Jobs.{tolds, tells-are, sent-are, waysOf}

@@ -2,17 +2,17 @@
 use mathlib.Core.Path.{_≡_, refl, sym, ap, subst, subst₂, _∙_}
 use mathlib.Core.Logic.{_⊎_, inl, inr, ⊎-elim}
 use mathlib.Core.Bool.{Bool, true, false, cond, _||_, _&&_, not}
-use mathlib.Core.List.{List, [], _∷_, _++_, List·Memᴰ, List·Memᴰ·head, List·Memᴰ·tail, List·Memᴰ·not-nil, List·Memᴰ·append-cases, Memᴰ·append-left, Memᴰ·append-right}
-use Prim.Native.Nat.{ℕ, zero, suc, _+_, _*_, _≤_, _<_}
+use mathlib.Core.List.{List, [], _∷_, _++_, List·Memᴰ, List·Memᴰ·head, List·Memᴰ·tail, List·Memᴰ·append-cases}
+use Prim.Native.Nat.{ℕ, suc, _+_, _≤_, _<_}
 use native.Mathlib.Omega.{arith}
-use lib.Dec.{eqb, ltb, leb, T}
+use lib.Dec.{eqb, ltb, leb}
 use lib.ListN.{length}
-use Rattle.std.proofs.shelf.Tests.{cond-both, eqb-true, eqb-false, eq-eqb, ltb-false, both-ways}
-use Rattle.streams.specs.Meaning.{Event, Entry, Plan, out}
-use Rattle.streams.specs.Calls.{Call, Put, Out', Drop, Reply, No, Yes, Outs, State, entryOk, core}
-use Rattle.streams.specs.Hands.{Box, In, From, Shown, Filled, Ask, Beat, Out, To, Show, Fill, Tell, here, Seen, Scene, Goes, countAt, Waits, Way}
+use Rattle.std.proofs.shelf.Tests.{cond-both, eq-eqb, ltb-false, both-ways}
+use Rattle.streams.specs.Meaning.{Event, Plan}
+use Rattle.streams.specs.Calls.{Call, Put, Out', Drop, Reply, No, Yes, Outs, entryOk}
+use Rattle.streams.specs.Hands.{Box, In, From, Shown, Filled, Ask, Beat, Tell, here, Seen, Scene, Goes, countAt, Way}
 use Rattle.interface.specs.Ops.{Gives, lacks, gives, Due, nothing, alone, withPage, Next, page, reply, Page, Ops, logBox}
-use Rattle.worker.specs.Worker.{Job, Batch, none, some, Phase, rest, log, put, ledger, page', written, kept, look, answer', gather, Keep, Mind, Told, Asks, none', show, fill, Step, keepIf, entries, stays, asks, keeping, hearing, looking, waits, fixed, settled', saying, forLog, yeses, isNothing, readLedger, startCall, startBy, start, idleBy, idle, settle, fillLog, putting, onLogBy, onPutBy, write, nextLog, onLedgerBy, onLedger, onPage, tookBy, gatherBy, gathers, onShown, onFilled, refuses, accepts, judges, acts, putsOf, isRest, telling, asking', turnOf, worker, lessOne}
+use Rattle.worker.specs.Worker.{Job, Batch, none, some, Phase, rest, log, put, ledger, page', written, kept, look, answer', gather, Keep, Mind, Told, Asks, none', show, fill, Step, keepIf, entries, stays, asks, keeping, hearing, looking, waits, fixed, settled', forLog, yeses, isNothing, readLedger, startCall, startBy, start, idleBy, idle, settle, fillLog, putting, onLogBy, onPutBy, write, nextLog, onLedgerBy, onLedger, tookBy, gatherBy, gathers, onShown, onFilled, refuses, accepts, judges, acts, putsOf, isRest, telling, asking', worker, lessOne}
 use Rattle.worker.specs.Laws.{Laws}
 use Rattle.shelf.proofs.Places.{all-cons, all-none}
 use Rattle.shelf.proofs.Counts.{minds-wait, Differ, count-at}

@@ -1,32 +1,33 @@
 -- OneIsEnough and ComesOut for the worker, over any book that keeps Plain and Live.
-use mathlib.Core.Path.{_≡_, refl, sym, ap, ap₂, subst, subst₂, _∙_}
+use mathlib.Core.Path.{_≡_, refl, sym, ap, subst, subst₂, _∙_}
 use mathlib.Core.Logic.{_⊎_, inl, inr, ⊎-elim}
-use mathlib.Core.Bool.{Bool, true, false, cond, _&&_, _||_, not}
-use mathlib.Core.List.{List, [], _∷_, _++_, List·Memᴰ, List·Memᴰ·head, List·Memᴰ·tail, Memᴰ·append-left}
-use Prim.Native.Nat.{ℕ, zero, suc, _+_, _*_, _≤_, _<_}
+use mathlib.Core.Bool.{true, false, not}
+use mathlib.Core.List.{List, [], _∷_, _++_, List·Memᴰ, List·Memᴰ·head, Memᴰ·append-left}
+use Prim.Native.Nat.{ℕ, suc, _+_, _*_, _≤_, _<_}
 use native.Mathlib.Omega.{arith}
-use lib.Dec.{eqb, ltb, leb, T}
+use lib.Dec.{ltb, leb, T}
 use lib.ListN.{length}
 use Rattle.std.proofs.shelf.Tests.{lt-ltb, le-leb, cond-true}
-use Rattle.streams.specs.Meaning.{Event, Entry, Plan, out}
-use Rattle.streams.specs.Calls.{Call, Put, Out', Drop, Reply, Outs, State, core, firstOf, dropOf, planOk}
-use Rattle.streams.specs.Hands.{Box, In, Ask, Hand, Stand, here, Seen, called, told, tells, isUsed, Scene, Waits, countAt, turned, asking, Alone, Goes, asked, Open, Ready, Book, OneIsEnough}
-use Rattle.streams.specs.Promise.{streams, Plans, ComesOut}
-use Rattle.interface.specs.Ops.{nothing, reply, Ops, logBox, Gathered}
-use Rattle.worker.specs.Worker.{Job, Batch, none, some, Phase, rest, answer', Keep, Mind, Told, Asks, none', show, Step, asks, keeping, hearing, waits, idle, start, startBy, accepts, judges, refuses, acts, worker, turnOf, putsOf}
+use Rattle.streams.specs.Meaning.{Entry, Plan, out}
+use Rattle.streams.specs.Calls.{Call, Out', Reply, Outs, State, core, firstOf, dropOf}
+use Rattle.streams.specs.Hands.{Ask, Hand, Stand, here, Seen, called, told, tells, isUsed, Scene, Waits, countAt, turned, asking, Alone, Goes, asked, Open, Ready, Book}
+use Rattle.streams.specs.Promise.{streams}
+use Rattle.interface.specs.Ops.{nothing, reply, Ops, logBox}
+use Rattle.worker.specs.Worker.{Job, none, some, rest, Keep, Mind, none', asks, keeping, hearing, waits, start, startBy, accepts, judges, refuses, acts, worker, putsOf}
 use Rattle.interface.specs.Plain.{Plain}
 use Rattle.interface.specs.Live.{Live, AnswersAll}
 use Rattle.worker.specs.Theorems.{WorkerEnds, WorkerOut}
 use Rattle.shelf.proofs.Places.{at-self}
 use Rattle.shelf.proofs.Waiting.{Waiting, waits-ok}
-use Rattle.worker.proofs.Invariant.{none-some, Good}
+use Rattle.worker.proofs.Invariant.{none-some}
 use Rattle.worker.proofs.Onebook.{inv}
 use Rattle.worker.proofs.Jobs.{stateOf}
-use Rattle.worker.proofs.Plainlaws.{W, plain-laws}
+use Rattle.worker.proofs.Plainlaws.{plain-laws}
 use Rattle.worker.proofs.Keeping.{HasM, worker-keeps-calls, worker-takes-calls, alone-waits, count-none}
-use Rattle.worker.proofs.Alone.{Mid, At, begun}
-use Rattle.worker.proofs.Ends.{Final, all-ends, Answered, ask-answer, Right'}
+use Rattle.worker.proofs.Alone.{At, begun}
+use Rattle.worker.proofs.Ends.{Final, all-ends, Answered, ask-answer}
 
+-- a hand that keeps nothing has no call in mind
 empty-has : (k : Keep) (n : ℕ) → k .batch ≡ none → k .waiting ≡ [] → ((j : Job) × List·Memᴰ j (k .waiting) × (n ≡ j .number)) ⊎ ((l : ℕ) × (ps : List Job) × (k .batch ≡ some l ps) × (j : Job) × List·Memᴰ j ps × (n ≡ j .number)) → ⊥
 empty-has k n b w (inl z) = elim (subst (List·Memᴰ (z .0)) w (z .1)) [ ]
 empty-has k n b w (inr z) = none-some (sym b ∙ z .2)

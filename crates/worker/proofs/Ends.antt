@@ -1,27 +1,26 @@
 -- The worker alone answers all that waits at it, and comes to rest where nothing is due and all is taken.
-use mathlib.Core.Path.{_≡_, refl, sym, ap, ap₂, subst, subst₂, _∙_}
+use mathlib.Core.Path.{_≡_, refl, sym, ap, subst, subst₂, _∙_}
 use mathlib.Core.Logic.{_⊎_, inl, inr, ⊎-elim}
-use mathlib.Core.Bool.{Bool, true, false, cond, _&&_, _||_, not}
-use mathlib.Core.List.{List, [], _∷_, _++_, List·Memᴰ, List·Memᴰ·head, List·Memᴰ·tail}
+use mathlib.Core.Bool.{Bool, true, false, cond, not}
+use mathlib.Core.List.{List, [], _∷_, List·Memᴰ, List·Memᴰ·head}
 use Prim.Native.Nat.{ℕ, zero, suc, _+_, _*_, _≤_, _<_}
 use native.Mathlib.Omega.{arith}
-use lib.Dec.{eqb, ltb, leb, T}
+use lib.Dec.{eqb, ltb}
 use lib.ListN.{length}
-use Rattle.std.proofs.shelf.Tests.{eqb-true, eqb-false, eq-eqb, ne-eqb, lt-ltb, ltb-true, ltb-false, not-from-true, cond-true, cond-false, cond-both, cases-bool, both-ways}
+use Rattle.std.proofs.shelf.Tests.{eqb-true, eq-eqb, ne-eqb, lt-ltb, ltb-true, ltb-false, not-from-true, cond-true, cond-false, cond-both, cases-bool, both-ways}
 use Rattle.streams.specs.Meaning.{Event, Entry, Plan}
 use Rattle.streams.specs.Calls.{Call, Put, Out', Drop, Reply, Outs}
 use Rattle.streams.specs.Hands.{Box, Seen, at, Scene, Beat, a-beat}
 use Rattle.interface.specs.Ops.{Gives, lacks, gives, nothing, Next, page, reply, Ops, logBox, Gathered, noPage, onePage}
-use Rattle.worker.specs.Worker.{Job, Batch, none, some, Phase, rest, log, put, ledger, answer', gather, Keep, Mind, Told, Asks, none', show, fill, Step, stays, asks, keeping, hearing, looking, waits, fixed, settled', saying, forLog, keepIf, entries, yeses, putsOf, readLedger, startCall, startBy, start, idleBy, idle, settle, fillLog, putting, onLogBy, onPutBy, gatherBy, gathers, onShown, onFilled, acts, isRest}
-use Rattle.interface.specs.Plain.{Plain, Now}
+use Rattle.worker.specs.Worker.{Job, Batch, none, some, rest, log, put, answer', gather, Keep, Mind, Told, none', show, fill, Step, asks, keeping, hearing, looking, waits, fixed, settled', saying, forLog, keepIf, entries, yeses, putsOf, readLedger, startCall, startBy, start, idleBy, idle, settle, fillLog, putting, onLogBy, onPutBy, gatherBy, gathers, acts}
+use Rattle.interface.specs.Plain.{Plain}
 use Rattle.interface.specs.Live.{Live}
-use Rattle.shelf.proofs.Places.{at-self}
-use Rattle.worker.proofs.Jobs.{keep-split, keep-less, entries-few}
-use Rattle.worker.proofs.Invariant.{log-some, Good, CallOk, HandOk, KeepOk, BatchOk}
+use Rattle.worker.proofs.Jobs.{keep-less, entries-few}
+use Rattle.worker.proofs.Invariant.{log-some, CallOk}
 use Rattle.worker.proofs.Onebook.{inv}
-use Rattle.worker.proofs.Plainlaws.{W, plain-laws}
-use Rattle.worker.proofs.Alone.{Mid, At, see, mid-turn}
-use Rattle.worker.proofs.Tending.{A, sound-at, fit-of, pours, other, next, ahead, Todo, Done, ledger-done}
+use Rattle.worker.proofs.Plainlaws.{plain-laws}
+use Rattle.worker.proofs.Alone.{At, see, mid-turn}
+use Rattle.worker.proofs.Tending.{sound-at, fit-of, pours, other, next, ahead, ledger-done}
 
 diff : (a b : ℕ) → a ≤ b → (d : ℕ) × (b ≡ a + d)
 diff zero b le = (b, omega arith)

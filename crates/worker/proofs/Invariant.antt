@@ -1,33 +1,30 @@
 -- The worker's invariant, over any book that keeps its laws, and that every step keeps it: a turn, a call, an answer of the store, a
 -- filling, a hand that goes or comes. All facts are about the past or only grow, so that what others do leaves them true: what a box
 -- held, what a page must hold, how far the ledger had come, which calls were made. Only the first lemmas of each part see the code.
-use mathlib.Core.Path.{_≡_, refl, sym, ap, subst, subst₂, subst₃, fun-ext, _∙_}
+use mathlib.Core.Path.{_≡_, refl, sym, ap, subst, subst₂, fun-ext, _∙_}
 use mathlib.Core.Logic.{_⊎_, inl, inr, ⊎-elim}
 use mathlib.Core.Bool.{Bool, true, false, cond, _||_, _&&_, not}
-use mathlib.Core.List.{List, [], _∷_, _++_, List·Memᴰ, List·Memᴰ·head, List·Memᴰ·tail, List·Memᴰ·not-nil, Memᴰ·append-right, Memᴰ·append-left, List·Memᴰ·append-cases}
-use Prim.Native.Nat.{ℕ, zero, suc, _+_, _*_, _≤_, _<_}
+use mathlib.Core.List.{List, [], _∷_, _++_, List·Memᴰ, List·Memᴰ·head, List·Memᴰ·tail, Memᴰ·append-right, Memᴰ·append-left}
+use Prim.Native.Nat.{ℕ, suc, _+_, _≤_, _<_}
 use native.Mathlib.Omega.{arith}
 use lib.Dec.{eqb, ltb, leb, T}
 use lib.ListN.{length}
-use Rattle.std.proofs.shelf.Tests.{eqb-true, eqb-false, eq-eqb, ne-eqb, cond-true, cond-false, cond-both, or-cases, or-parts, or-from, or-left, or-right, cases-bool, and-parts, both-ways, ltb-true, ltb-false, leb-true, leb-false}
-use Rattle.streams.specs.Meaning.{Event, Entry, Plan, out}
-use Rattle.streams.specs.Calls.{Call, Put, Out', Drop, Reply, No, Yes, Outs, State, entryOk, core, empties, putIn, dropOf, firstOf, Answers, outs, badPut, noLog, tooMany, not-yet}
-use Rattle.streams.specs.Hands.{Box, In, From, Shown, Filled, Ask, Beat, Out, To, Show, Fill, Tell, Way, word, wantsBox, wantsFill, shows, says, Stand, away, here, Seen, called, told, isUsed, isIn, at, Scene, Keeper, Open, Ready, Book, fillable, allBytes, Comes, a-word, a-box, a-filling, a-beat}
+use Rattle.std.proofs.shelf.Tests.{eqb-true, eqb-false, eq-eqb, cond-both, or-left, or-right, cases-bool, and-parts, both-ways, ltb-true, ltb-false, leb-true, leb-false}
+use Rattle.streams.specs.Meaning.{Event, Plan, out}
+use Rattle.streams.specs.Calls.{Call, Put, Out', Drop, Reply, No, Yes, Outs, State, entryOk, core, dropOf, firstOf, Answers, outs, badPut, noLog, tooMany, not-yet}
+use Rattle.streams.specs.Hands.{Box, In, Ask, Way, word, wantsBox, wantsFill, shows, says, Stand, away, here, Seen, called, told, isUsed, isIn, at, Open, Ready, fillable, allBytes, Comes, a-word, a-box, a-filling, a-beat}
 use Rattle.interface.specs.Ops.{Gives, lacks, gives, Due, nothing, alone, withPage, Next, page, reply, Page, Ops, logBox, putAll, IsPage, Gathered, noPage, onePage, Tag}
-use Rattle.worker.specs.Worker.{stays, asks, keeping, hearing, looking, waits, fixed, settled', saying, forLog, yeses, isNothing, readLedger, startCall, startBy, start, idleBy, idle, settle, fillLog, putting, onLogBy, onPutBy, write, nextLog, onLedgerBy, onLedger, onPage, tookBy, gatherBy, gathers, onShown, onFilled, refuses, accepts, judges, acts, putsOf, isRest, telling, asking', turnOf, worker, lessOne, Job, Batch, none, some, Phase, rest, log, put, ledger, page', written, kept, look, answer', gather, Keep, Mind, Told, Asks, none', show, fill, Step, keepIf, entries}
+use Rattle.worker.specs.Worker.{stays, asks, keeping, hearing, looking, waits, fixed, settled', saying, forLog, yeses, isNothing, readLedger, startCall, startBy, start, idleBy, idle, settle, fillLog, putting, onLogBy, onPutBy, write, nextLog, onLedgerBy, onLedger, onPage, tookBy, gatherBy, gathers, onShown, onFilled, refuses, accepts, judges, acts, putsOf, isRest, worker, lessOne, Job, Batch, none, some, Phase, rest, log, put, ledger, page', written, kept, look, answer', gather, Keep, Mind, Told, Asks, none', show, fill, Step, keepIf, entries}
 use Rattle.worker.specs.Laws.{Right, Laws}
 use Rattle.shelf.proofs.Places.{all-cons, all-none, all-append, at-case, at-hands, not-here, at-self, at-one}
-use Rattle.shelf.proofs.Callers.{Who, nobody, by, caller, caller-used, caller-stays, caller-new}
-use Rattle.shelf.proofs.History.{Kept, WasShown, WasFilled, WasNot}
+use Rattle.shelf.proofs.Callers.{by, caller, caller-used, caller-stays, caller-new}
+use Rattle.shelf.proofs.History.{Kept}
 use Rattle.shelf.proofs.Numbers.{Fresh}
 use Rattle.shelf.proofs.Latelooks.{Loose, Less, taken, less-of, less-rest, loose-in, loose-done, loose-out, loose-back}
-use Rattle.worker.proofs.Jobs.{keep-split, keep-less, length-snoc, entries-few, in-keep, distinct-keep, distinct-same, distinct-snoc, tell-all, TellAll, tolds, tells-are, sent-are, opening, readying, Distinct, IsPut, is-put, entries-ok, length-puts, K, stateOf, DoneAll, done-all, waysOf}
+use Rattle.worker.proofs.Jobs.{keep-split, keep-less, length-snoc, entries-few, in-keep, distinct-keep, distinct-same, distinct-snoc, tell-all, TellAll, tolds, opening, readying, Distinct, IsPut, is-put, entries-ok, length-puts, K, stateOf, DoneAll, done-all, waysOf}
 
 pub at-mine : {A : Type 0} (i c : ℕ) (m : A) (f : ℕ → Stand A) (d : ℕ) (n : A) → at i (here c m) f i ≡ here d n → (c ≡ d) × (m ≡ n)
 at-mine {A} i c m f d n e = let u : _≡_ {A = Stand A} (here c m) (here d n) = sym (at-self i (here c m) f) ∙ e in (cc, cc)
-
-pub log-same : (l n : ℕ) → logBox l ≡ logBox n → l ≡ n
-log-same l n e = omega arith
 
 pub log-some : (l : ℕ) → logBox l ≡ 0 → ⊥
 log-some l e = omega arith

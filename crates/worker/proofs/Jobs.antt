@@ -1,21 +1,21 @@
 -- Jobs, and what is done and told of many at once in a book.
 use mathlib.Core.Path.{_≡_, refl, sym, ap, subst, _∙_}
-use mathlib.Core.Logic.{_⊎_, inl, inr, ⊎-elim}
-use mathlib.Core.Bool.{Bool, true, false, cond, _||_, _&&_, not}
-use mathlib.Core.List.{List, [], _∷_, _++_, List·Memᴰ, List·Memᴰ·head, List·Memᴰ·tail, List·Memᴰ·not-nil, Memᴰ·append-right, List·Memᴰ·append-cases}
+use mathlib.Core.Logic.{_⊎_, ⊎-elim}
+use mathlib.Core.Bool.{Bool, true, false, cond, not}
+use mathlib.Core.List.{List, [], _∷_, _++_, List·Memᴰ, List·Memᴰ·head, List·Memᴰ·tail, List·Memᴰ·append-cases}
 use Prim.Native.Nat.{ℕ, zero, suc, _+_, _≤_, _<_}
 use native.Mathlib.Omega.{arith}
-use lib.Dec.{eqb, ltb, leb, T}
+use lib.Dec.{T}
 use lib.ListN.{length}
-use Rattle.std.proofs.shelf.Tests.{eqb-true, eqb-false, eq-eqb, cond-true, cond-false, cond-both, both-ways}
-use Rattle.streams.specs.Meaning.{Event, Entry, Plan, out}
-use Rattle.streams.specs.Calls.{Call, Put, Out', Drop, Reply, No, Yes, Outs, State, entryOk, core, empties, putIn, Answers, put}
-use Rattle.streams.specs.Hands.{Seen, called, told, Keeper, Open, Ready, Out, To, Show, Fill, Tell, Way, wantsBox, wantsFill, sent, tells, settled}
-use Rattle.streams.specs.Promise.{streams, room}
+use Rattle.std.proofs.shelf.Tests.{cond-both, both-ways}
+use Rattle.streams.specs.Meaning.{Entry, Plan}
+use Rattle.streams.specs.Calls.{Call, Put, Out', Drop, Reply, Yes, State, entryOk, core, empties, putIn, put}
+use Rattle.streams.specs.Hands.{Seen, told, Keeper, Open, Ready, Way, wantsBox, wantsFill, sent, tells}
+use Rattle.streams.specs.Promise.{streams}
 use Rattle.interface.specs.Ops.{putAll}
 use Rattle.worker.specs.Worker.{Job, Told, Asks, none', show, fill, keepIf, entries, entryOf, yeses, telling, asking'}
 use Rattle.shelf.proofs.Places.{all-cons, all-none}
-use Rattle.shelf.proofs.Latelooks.{Less, taken, later, less-of, less-rest, less-in, Loose, loose-in, loose-done, loose-out, loose-back}
+use Rattle.shelf.proofs.Latelooks.{Less, less-of, less-rest, Loose, loose-done, loose-out}
 
 abbrev pub opening : (i k : ℕ) → Call → Open Call
 opening i k o = record { hand = i; number = k; call = o }

@@ -1,18 +1,16 @@
 -- The worker lets go of a call only by telling it; and what waited at a hand alone still waits, or was told.
-use mathlib.Core.Path.{_≡_, refl, sym, ap, subst, subst₂, _∙_}
+use mathlib.Core.Path.{_≡_, refl, sym, ap, subst, _∙_}
 use mathlib.Core.Logic.{_⊎_, inl, inr, ⊎-elim}
-use mathlib.Core.Bool.{Bool, true, false, cond, _&&_, _||_, not}
+use mathlib.Core.Bool.{Bool, true, cond, not}
 use mathlib.Core.List.{List, [], _∷_, _++_, List·Memᴰ, List·Memᴰ·head, List·Memᴰ·tail, Memᴰ·append-left, Memᴰ·append-right}
-use Prim.Native.Nat.{ℕ, zero, suc, _+_, _≤_, _<_}
-use native.Mathlib.Omega.{arith}
-use lib.Dec.{eqb, ltb, leb, T}
+use Prim.Native.Nat.{ℕ, _+_}
+use lib.Dec.{eqb, ltb, leb}
 use lib.ListN.{length}
-use Rattle.std.proofs.shelf.Tests.{eqb-true, eqb-false, eq-eqb, not-from-true, not-from-false, cond-true, cond-false, cond-both, cases-bool, both-ways}
-use Rattle.streams.specs.Meaning.{Event, Entry}
+use Rattle.std.proofs.shelf.Tests.{eqb-true, eqb-false, not-from-false, cond-true, cond-false, cond-both, cases-bool}
 use Rattle.streams.specs.Calls.{Call, Put, Out', Drop, Reply, No, Yes, Outs, entryOk}
-use Rattle.streams.specs.Hands.{Box, In, From, Shown, Filled, Ask, Beat, Out, To, Show, Fill, Tell, Hand, Seen, told, Scene, Waits, countAt, tells, settled, Alone, stay, turn, shown, filled, notFilled}
+use Rattle.streams.specs.Hands.{In, Ask, Out, To, Show, Fill, Tell, Hand, Seen, told, Scene, Waits, countAt, tells, settled, Alone, stay, turn, shown, filled, notFilled}
 use Rattle.interface.specs.Ops.{Ops}
-use Rattle.worker.specs.Worker.{Job, Batch, none, some, Phase, Keep, Mind, Told, Asks, Step, keeping, waits, fixed, settled', stays, start, forLog, keepIf, yeses, putsOf, isRest, refuses, accepts, judges, acts, telling, asking', worker}
+use Rattle.worker.specs.Worker.{Job, Batch, some, Keep, Mind, Told, Step, keeping, waits, stays, start, forLog, keepIf, yeses, putsOf, isRest, refuses, accepts, judges, acts, telling, asking', worker}
 use Rattle.shelf.proofs.Counts.{stay-without}
 use Rattle.worker.proofs.Invariant.{none-some}
 use Rattle.worker.proofs.Busy.{HasK, Can', keeps, fixes, settles, answers, refuses', accepts', can, kp-start}

@@ -1,28 +1,28 @@
 -- OneBook for the worker: by induction over all that can happen.
 use mathlib.Core.Path.{_≡_, refl, sym, ap, subst, subst₂, _∙_}
-use mathlib.Core.Logic.{_⊎_, inl, inr, ⊎-elim}
+use mathlib.Core.Logic.{_⊎_, inl, inr}
 use mathlib.Core.Bool.{Bool, true, false, cond, _||_, _&&_, not}
-use mathlib.Core.List.{List, [], _∷_, _++_, List·Memᴰ, List·Memᴰ·head, List·Memᴰ·tail, List·Memᴰ·not-nil}
-use Prim.Native.Nat.{ℕ, zero, suc, _+_, _*_, _≤_, _<_}
+use mathlib.Core.List.{List, [], _∷_, _++_}
+use Prim.Native.Nat.{ℕ, suc, _+_, _≤_, _<_}
 use native.Mathlib.Omega.{arith}
 use lib.Dec.{eqb, ltb, leb, T}
 use lib.ListN.{length}
 use Rattle.std.proofs.shelf.Tests.{cond-both}
-use Rattle.streams.specs.Meaning.{Event, Entry, Plan, out}
-use Rattle.streams.specs.Calls.{Call, Put, Out', Drop, Reply, No, Yes, Outs, State, entryOk, core, empties, begins}
-use Rattle.streams.specs.Hands.{Box, In, From, Shown, Filled, Ask, Beat, Out, To, Show, Fill, Tell, Way, word, wantsBox, wantsFill, shows, says, Stand, away, here, Seen, called, told, isUsed, isIn, at, Scene, Open, Ready, Book, sent, tells, settled, turned, asking, answered, come, gone, Goes, first, turns, asked, showsBox, fills, doesntFill, goes, comes}
+use Rattle.streams.specs.Meaning.{Event, Plan}
+use Rattle.streams.specs.Calls.{Call, Put, Out', Drop, Reply, State, entryOk}
+use Rattle.streams.specs.Hands.{Box, In, From, Shown, Filled, Ask, Beat, wantsFill, shows, says, away, here, Seen, called, isUsed, isIn, at, Scene, Open, Ready, Book, sent, tells, Goes, first, turns, asked, showsBox, fills, doesntFill, goes, comes}
 use Rattle.interface.specs.Ops.{Gives, lacks, gives, Due, nothing, alone, withPage, Next, page, reply, Page, Ops, logBox}
-use Rattle.worker.specs.Worker.{Job, Batch, none, some, Phase, rest, log, put, ledger, page', written, kept, look, answer', gather, Keep, Mind, Told, Asks, none', show, fill, Step, keepIf, entries, stays, asks, keeping, hearing, looking, waits, fixed, settled', saying, forLog, yeses, isNothing, readLedger, startCall, startBy, start, idleBy, idle, settle, fillLog, putting, onLogBy, onPutBy, write, nextLog, onLedgerBy, onLedger, onPage, tookBy, gatherBy, gathers, onShown, onFilled, refuses, accepts, judges, acts, putsOf, isRest, telling, asking', turnOf, worker, lessOne}
+use Rattle.worker.specs.Worker.{Job, Batch, none, some, Phase, rest, log, put, ledger, page', written, kept, look, answer', gather, Keep, Mind, Told, Asks, none', show, fill, Step, keepIf, entries, stays, asks, keeping, hearing, looking, waits, fixed, settled', forLog, isNothing, readLedger, startCall, startBy, start, idleBy, idle, settle, fillLog, putting, onLogBy, onPutBy, write, nextLog, onLedgerBy, tookBy, gatherBy, gathers, onShown, onFilled, refuses, accepts, judges, acts, putsOf, isRest, telling, asking', turnOf, worker, lessOne}
 use Rattle.worker.specs.Laws.{Laws}
 use Rattle.shelf.specs.Moments.{Rises}
 use Rattle.shelf.proofs.Places.{not-here, fillable-edition}
-use Rattle.shelf.proofs.History.{past, Kept}
-use Rattle.shelf.proofs.Numbers.{Fresh, fresh}
+use Rattle.shelf.proofs.History.{past}
+use Rattle.shelf.proofs.Numbers.{fresh}
 use Rattle.shelf.proofs.Latelooks.{Loose}
 use Rattle.shelf.proofs.History
 use Rattle.shelf.proofs.Latelooks
-use Rattle.worker.proofs.Jobs.{tells-are, sent-are, tolds, waysOf, length-empties, K, stateOf}
-use Rattle.worker.proofs.Invariant.{View, Core, Good, next, Turned, turn-ok, call-ok, Filled', fill-ok, answer-quiet, gone-quiet, come-quiet}
+use Rattle.worker.proofs.Jobs.{tells-are, sent-are, length-empties, K, stateOf}
+use Rattle.worker.proofs.Invariant.{View, Good, Turned, turn-ok, call-ok, fill-ok, answer-quiet, gone-quiet, come-quiet}
 
 -- numbers go up
 abbrev Up : ℕ → Step → Type 0

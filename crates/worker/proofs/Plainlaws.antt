@@ -1,21 +1,20 @@
 -- A book that promises what Plain says keeps the worker's laws: what held once is carried along.
-use mathlib.Core.Path.{_≡_, refl, sym, ap, subst, subst₂, _∙_}
+use mathlib.Core.Path.{_≡_, refl, sym, ap, subst, _∙_}
 use mathlib.Core.Logic.{_⊎_, inl, inr, ⊎-elim}
-use mathlib.Core.Bool.{Bool, true, false, cond, _&&_}
-use mathlib.Core.List.{List, [], _∷_, _++_, List·Memᴰ, List·Memᴰ·head, List·Memᴰ·tail}
-use Prim.Native.Nat.{ℕ, zero, suc, _+_, _*_, _≤_, _<_}
+use mathlib.Core.Bool.{_&&_}
+use mathlib.Core.List.{List, [], List·Memᴰ}
+use Prim.Native.Nat.{ℕ, suc, _+_, _≤_, _<_}
 use native.Mathlib.Omega.{arith}
-use lib.Dec.{eqb, leb, T}
+use lib.Dec.{leb, T}
 use lib.ListN.{length}
-use Rattle.std.proofs.shelf.Tests.{cond-both}
-use Rattle.streams.specs.Meaning.{Event, Entry, Plan, out}
-use Rattle.streams.specs.Calls.{entryOk, empties, firstOf, dropOf}
+use Rattle.streams.specs.Meaning.{Event, Entry, Plan}
+use Rattle.streams.specs.Calls.{entryOk, empties}
 use Rattle.streams.specs.Hands.{Box, at, allBytes}
-use Rattle.interface.specs.Ops.{gives, Due, nothing, alone, withPage, Next, page, reply, Page, Ops, logBox, putAll, IsPage, Gathered, noPage, onePage, Tag}
+use Rattle.interface.specs.Ops.{gives, Due, nothing, alone, withPage, Page, Ops, logBox, putAll, IsPage, Gathered, noPage, onePage, Tag}
 use Rattle.worker.specs.Laws.{Right, Laws}
 use Rattle.interface.specs.Plain.{Plain, Now, Kept}
 use Rattle.shelf.proofs.Places.{at-self, at-one}
-use Rattle.worker.proofs.Invariant.{log-same, log-some}
+use Rattle.worker.proofs.Invariant.{log-some}
 
 other : {A : Type 0} (b : ℕ) (x : A) (f : ℕ → A) (d : ℕ) → (d ≡ b → ⊥) → at b x f d ≡ f d
 other b x f d ne = at-one (λ z. z ≡ f d) b x f d (λ y. absurd (ne y)) (λ y. refl)

@@ -1,13 +1,13 @@
 -- Numbers in bytes.
-use mathlib.Core.Path.{_≡_, refl, sym, ap, ap₂, subst, _∙_}
+use mathlib.Core.Path.{_≡_, refl, sym, ap, ap₂, _∙_}
 use mathlib.Core.Logic.{_⊎_, inl, inr, ⊎-elim}
-use mathlib.Core.Bool.{Bool, true, false, cond, _&&_, _||_, not}
+use mathlib.Core.Bool.{true, _&&_}
 use mathlib.Core.List.{List, [], _∷_}
 use Prim.Native.Nat.{ℕ, zero, suc, _+_, _*_, _%_, _/_, _≤_, _<_}
 use native.Mathlib.Omega.{arith}
-use lib.Dec.{eqb, ltb, leb, T}
+use lib.Dec.{eqb, ltb}
 use lib.ListN.{length}
-use Rattle.std.proofs.shelf.Tests.{eqb-true, eq-eqb, lt-ltb, ltb-true, ltb-false, cases-bool, and-from, and-parts, both-ways}
+use Rattle.std.proofs.shelf.Tests.{eqb-true, eq-eqb, lt-ltb, ltb-true, ltb-false, cases-bool, and-from, and-parts}
 use Rattle.streams.specs.Hands.{allBytes}
 use Rattle.worker.specs.Small.{get, set, reads, puts, smallHas, smallAdds}
 

@@ -1,19 +1,19 @@
 -- The small book keeps Plain and Live, and answers all that there is of plans of which nothing comes out.
 use mathlib.Core.Path.{_≡_, refl, sym, ap, ap₂, subst, _∙_}
-use mathlib.Core.Logic.{_⊎_, inl, inr, ⊎-elim}
-use mathlib.Core.Bool.{Bool, true, false, cond, _&&_, _||_, not}
+use mathlib.Core.Logic.{_⊎_, inl, inr}
+use mathlib.Core.Bool.{Bool, true, false, _&&_, not}
 use mathlib.Core.List.{List, [], _∷_, List·Memᴰ, List·Memᴰ·head, List·Memᴰ·tail}
 use Prim.Native.Nat.{ℕ, zero, suc, _+_, _*_, _≤_, _<_}
 use native.Mathlib.Omega.{arith}
-use lib.Dec.{eqb, ltb, leb, T}
+use lib.Dec.{eqb, leb, T}
 use lib.ListN.{length}
-use Rattle.std.proofs.shelf.Tests.{eqb-true, eq-eqb, le-leb, lt-ltb, and-from, or-parts, or-from, not-from-true, cases-bool, both-ways}
+use Rattle.std.proofs.shelf.Tests.{eqb-true, eq-eqb, le-leb, and-from, or-parts, or-from, not-from-true, both-ways}
 use Rattle.streams.specs.Meaning.{Event, Entry, Plan, Stage, Num, Key, Value, Count, word, mark, allInTime, cells, ended, eventsOf, throughAll, out}
 use Rattle.streams.specs.Calls.{firstOf, dropOf, parts, exprOk, every}
 use Rattle.streams.specs.Hands.{Box, at, allBytes}
-use Rattle.interface.specs.Ops.{lacks, gives, Due, nothing, alone, withPage, page, reply, Page, Ops, logBox, IsPage, Tag}
+use Rattle.interface.specs.Ops.{gives, withPage, reply, Page, logBox, IsPage}
 use Rattle.interface.specs.Plain.{Plain, Now, Kept}
-use Rattle.interface.specs.Live.{Live, AnswersAll}
+use Rattle.interface.specs.Live.{Live}
 use Rattle.worker.specs.Theorems.{KeepsInterface}
 use Rattle.worker.specs.Small.{smallHas, smallAdds, smallDue, smallAfter, smallPages, smallTake, smallDiffers, small, smalls, Silent, SmallWhole}
 use Rattle.shelf.proofs.Places.{at-self, at-one}

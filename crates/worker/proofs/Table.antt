@@ -1,6 +1,5 @@
 -- The table of turns, computed.
-use mathlib.Core.Path.{_≡_, refl}
-use mathlib.Core.List.{List, [], _∷_, _++_}
+use mathlib.Core.Path.{refl}
 use Rattle.streams.specs.Meaning.{timeOf}
 use Rattle.streams.specs.Calls.{entryOk}
 use Rattle.streams.specs.Hands.{isIn}

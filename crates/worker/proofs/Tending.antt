@@ -8,19 +8,19 @@ use native.Mathlib.Omega.{arith}
 use lib.Dec.{eqb, ltb, leb, T}
 use lib.ListN.{length}
 use Rattle.std.proofs.shelf.Tests.{eqb-true, eqb-false, eq-eqb, ne-eqb, lt-ltb, ltb-true, and-from, and-right, or-right, not-from-true, not-from-false, cond-true, cond-false, cond-both, cases-bool, both-ways}
-use Rattle.streams.specs.Meaning.{Event, Entry, Plan}
+use Rattle.streams.specs.Meaning.{Entry, Plan}
 use Rattle.streams.specs.Calls.{Call, Reply}
-use Rattle.streams.specs.Hands.{Box, Way, wantsFill, Seen, at, Scene, allBytes}
+use Rattle.streams.specs.Hands.{Box, wantsFill, Seen, at, Scene, allBytes}
 use Rattle.interface.specs.Ops.{Gives, lacks, gives, Due, nothing, alone, withPage, Page, Ops, logBox}
-use Rattle.worker.specs.Worker.{Phase, ledger, page', written, kept, look, Keep, Mind, Asks, show, fill, Step, asks, hearing, looking, isNothing, readLedger, idle, write, nextLog, onLedgerBy, onPage, tookBy, onShown, onFilled, lessOne}
+use Rattle.worker.specs.Worker.{ledger, page', written, kept, look, Keep, Mind, show, fill, Step, asks, hearing, looking, isNothing, readLedger, idle, write, nextLog, onLedgerBy, tookBy, onFilled, lessOne}
 use Rattle.interface.specs.Plain.{Plain, Now}
 use Rattle.interface.specs.Live.{Live}
 use Rattle.shelf.proofs.Places.{at-self, at-one}
 use Rattle.shelf.proofs.History.{past}
-use Rattle.worker.proofs.Invariant.{fill-ok, log-some, Good}
+use Rattle.worker.proofs.Invariant.{fill-ok, log-some}
 use Rattle.worker.proofs.Onebook.{inv, viewOf}
-use Rattle.worker.proofs.Plainlaws.{W, plain-laws}
-use Rattle.worker.proofs.Alone.{Mid, At, mid-in, Wanted, see, pour, miss}
+use Rattle.worker.proofs.Plainlaws.{plain-laws}
+use Rattle.worker.proofs.Alone.{At, mid-in, Wanted, see, pour, miss}
 
 abbrev Fits : List ℕ → Type 0
 Fits x = T (leb (length x) 1048576 && allBytes x)

@@ -1,8 +1,5 @@
 -- The theorems of the worker, over any book that keeps the interface, put together.
-use mathlib.Core.Path.{_≡_}
-use Prim.Native.Nat.{ℕ, _≤_, _<_}
 use native.Mathlib.Omega.{arith}
-use Rattle.interface.specs.Plain.{Plain}
 use Rattle.worker.specs.Theorems.{WorkerKeeps, WorkerWhole}
 use Rattle.worker.proofs.Plainlaws.{plain-laws}
 use Rattle.worker.proofs.Onebook.{worker-book}

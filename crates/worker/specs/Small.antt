@@ -2,7 +2,7 @@
 -- that the interface asks for nothing that cannot be had. It keeps no events, so it answers none.
 -- Assumes nothing.
 use mathlib.Core.Path.{_≡_}
-use mathlib.Core.Bool.{Bool, true, false, cond, _&&_, _||_, not}
+use mathlib.Core.Bool.{Bool, true, false, _&&_, _||_, not}
 use mathlib.Core.List.{List, [], _∷_}
 use Prim.Native.Nat.{ℕ, zero, suc, _+_, _*_, _%_, _/_, _≤_}
 use lib.Dec.{eqb, ltb, T}
@@ -10,7 +10,7 @@ use Rattle.streams.specs.Meaning.{Entry, Plan, out}
 use Rattle.streams.specs.Calls.{core, planOk}
 use Rattle.streams.specs.Hands.{OneBook, BusyAtNine, OneIsEnough}
 use Rattle.streams.specs.Promise.{streams, Plans, Whole}
-use Rattle.interface.specs.Ops.{Gives, gives, Due, nothing, alone, withPage, reply, Page, Ops}
+use Rattle.interface.specs.Ops.{gives, Due, nothing, alone, withPage, reply, Page, Ops}
 use Rattle.worker.specs.Worker.{workers}
 
 unfoldable pub get : ℕ → List ℕ → ℕ

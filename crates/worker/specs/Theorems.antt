@@ -1,7 +1,6 @@
 -- What is proved of the worker, over any book that keeps the interface. Statements that speak of all books are of Type 1 and
 -- stand on no contract: they are the types of public lemmas, and contracts cite them at a book.
 -- Assumes nothing.
-use mathlib.Core.Path.{_≡_}
 use Prim.Native.Nat.{ℕ, _≤_}
 use lib.Dec.{T}
 use Rattle.streams.specs.Meaning.{Plan}
