@@ -31,6 +31,7 @@ stages-ok (st ∷ sts) h = (ltb→lt 0 (st .size) (and-right most (ltb 0 (st .si
   where
     most : Bool
     most = fine (st .keep') && fine (st .key) && fine (st .value)
+
     one : T (stageOk st)
     one = and-left (stageOk st) (every stageOk sts) h
 
@@ -43,8 +44,10 @@ plan-small p h = record { few = leb→le (length (p .stages)) 8 (and-right (leb 
 
 plan-fine : (p : Plan) → T (planOk p) → PlanFine p
 plan-fine p h =
-    record { some = ltb→lt 0 (length (p .stages)) (and-right (leb (p .late) 1099511627776) (ltb 0 (length (p .stages))) (and-left (leb (p .late) 1099511627776 && ltb 0 (length (p .stages))) (leb (length (p .stages)) 8) (and-left (leb (p .late) 1099511627776 && ltb 0 (length (p .stages)) && leb (length (p .stages)) 8) (every stageOk (p .stages)) h)));
-             sized = sized (p .stages) (plan-small p h .stages) }
+    record {
+      some = ltb→lt 0 (length (p .stages)) (and-right (leb (p .late) 1099511627776) (ltb 0 (length (p .stages))) (and-left (leb (p .late) 1099511627776 && ltb 0 (length (p .stages))) (leb (length (p .stages)) 8) (and-left (leb (p .late) 1099511627776 && ltb 0 (length (p .stages)) && leb (length (p .stages)) 8) (every stageOk (p .stages)) h)));
+      sized = sized (p .stages) (plan-small p h .stages);
+    }
 
 sizes-ok : SizesOk sizes
 sizes-ok = (omega arith, omega arith, omega arith, omega arith, omega arith)
