@@ -102,7 +102,7 @@ lows-rise P d none o = tt
 lows-rise P d (plain low c ss) o = (lows-after P ss low (o .2) (till-like P Free (λ k x. tt) ss low (o .1)), lows-rise P d ss (o .2))
 lows-rise P d (packed low n inner c ss) o =
     rising-append (lows inner) (lows ss) (lows-rise (Till P ss) (till-down P d ss) inner (o .4)) (lows-rise P d ss (o .2))
-      (keys-like (Till P ss) (λ k. Keys (Bef k) (lows ss)) (λ k u. lows-after P ss k (o .2) (till-like P Free (λ j x. tt) ss k u)) (lows inner) (lows-limit (Till P ss) (till-down P d ss) inner (o .4)))
+    (keys-like (Till P ss) (λ k. Keys (Bef k) (lows ss)) (λ k u. lows-after P ss k (o .2) (till-like P Free (λ j x. tt) ss k u)) (lows inner) (lows-limit (Till P ss) (till-down P d ss) inner (o .4)))
 
 lows-alive : (P : Key → Type 0) (ss : Segs) → Alive P ss → Keys P (lows ss)
 lows-alive P none a = tt

@@ -43,7 +43,7 @@ segs-after P none a o u = tt
 segs-after P (plain low c ss) a o u = each-append (Bef a) (chainRows c) (under ss) (chain-after (Within P low ss) a (λ k p. bef-upto-trans a low k u (p .0)) c (o .0)) (segs-after P ss a (o .2) (under-down P ss a low u (o .1)))
 segs-after P (packed low n inner c ss) a o u =
     each-append (Bef a) (chainRows c) (under inner ++ under ss) (chain-after (Within P low ss) a (λ k p. bef-upto-trans a low k u (p .0)) c (o .0))
-      (each-append (Bef a) (under inner) (under ss) (segs-after (Till P ss) inner a (o .4) (first-under inner a low (o .3) u)) (segs-after P ss a (o .2) (under-down P ss a low u (o .1))))
+    (each-append (Bef a) (under inner) (under ss) (segs-after (Till P ss) inner a (o .4) (first-under inner a low (o .3) u)) (segs-after P ss a (o .2) (under-down P ss a low u (o .1))))
 
 -- THE LEAST OF ALL is the front's first, when the source is none
 abbrev pub popH : List Row → Held → Held
@@ -55,8 +55,10 @@ least how h r rs e n o = each-onto (Bef (r .at)) how rs others (srt .0) (each-on
   where
     others : List Row
     others = onto how (h .buffer) (onto how (under (h .segs)) (onto how (chainRows (h .source)) []))
+
     srt : Sorted (r ∷ rs)
     srt = subst Sorted e (o .front)
+
     bel : Each (Under (h .segs)) (r ∷ rs)
     bel = subst (Each (Under (h .segs))) e (o .below)
 
@@ -179,9 +181,19 @@ record Went (sts : List Stage) (m : ℕ) (es : List Event) (f : Pages) (h : Held
 go-on : (sts : List Stage) (m : ℕ) (es : List Event) (f : Pages) (h : Held) (os : List Event) (o : Onward) → HeldIn f h → Order h → h .source ≡ [] → Lean h → Alive (Has (contents (howOf sts) h)) (h .segs) → Flows sts m es (rest (howOf sts) o (contents (howOf sts) h)) (outs o os) → Went sts m es f h o os (goOn (howOf sts) o (queueOf h))
 go-on sts m es f h os (Out e) i o n l a w = record { held = h; is = refl; pages = i; order = o; none = n; lean = l; few = omega arith; alive = a; flows = w; next = refl; same = refl }
 go-on sts m es f h os (On r) i o n l a w =
-    record { held = placeH (howOf sts) r h; is = place-is (howOf sts) r h; pages = i; order = place-order (howOf sts) r h o; none = n; lean = record { segs = l .segs; source = l .source }; few = place-few (howOf sts) r h;
-             alive = subst (λ (x : List Row). Alive (Has x) (h .segs)) (sym (place-contents (howOf sts) r h)) (alive-like (Has (contents (howOf sts) h)) (Has (add (howOf sts) r (contents (howOf sts) h))) (has-add (howOf sts) r (contents (howOf sts) h)) (h .segs) a);
-             flows = subst (λ (x : List Row). Flows sts m es x (os ++ [])) (sym (place-contents (howOf sts) r h)) (subst (Flows sts m es (add (howOf sts) r (contents (howOf sts) h))) (sym (append-nil os)) w); next = refl; same = place-contents (howOf sts) r h }
+    record {
+      held = placeH (howOf sts) r h;
+      is = place-is (howOf sts) r h;
+      pages = i;
+      order = place-order (howOf sts) r h o;
+      none = n;
+      lean = record { segs = l .segs; source = l .source };
+      few = place-few (howOf sts) r h;
+      alive = subst (λ (x : List Row). Alive (Has x) (h .segs)) (sym (place-contents (howOf sts) r h)) (alive-like (Has (contents (howOf sts) h)) (Has (add (howOf sts) r (contents (howOf sts) h))) (has-add (howOf sts) r (contents (howOf sts) h)) (h .segs) a);
+      flows = subst (λ (x : List Row). Flows sts m es x (os ++ [])) (sym (place-contents (howOf sts) r h)) (subst (Flows sts m es (add (howOf sts) r (contents (howOf sts) h))) (sym (append-nil os)) w);
+      next = refl;
+      same = place-contents (howOf sts) r h;
+    }
 go-on sts m es f h os Gone i o n l a w = record { held = h; is = refl; pages = i; order = o; none = n; lean = l; few = omega arith; alive = a; flows = subst (Flows sts m es (contents (howOf sts) h)) (sym (append-nil os)) w; next = refl; same = refl }
 
 stop : (sts : List Stage) (m : ℕ) (es : List Event) (f : Pages) (k : ℕ) (h : Held) (os : List Event) → HeldIn f h → Order h → h .source ≡ [] → Lean h → Alive (Has (contents (howOf sts) h)) (h .segs) → Flows sts m es (contents (howOf sts) h) os → (Ended m (h .front) → 1 ≤ k → ⊥) → Emits sts m es f k h os (record { queue = queueOf h; outs = [] })
@@ -202,26 +214,47 @@ emits-by sts m es f k more z ih h os (r ∷ rs) e i o n ln a w = go (leb (r .at 
   where
     how : ℕ → Sum
     how = howOf sts
+
     ems : Emitted
     ems = goOn (howOf sts) (onward sts r) (queueOf (popH rs h))
+
     p : contents (howOf sts) h ≡ r ∷ contents (howOf sts) (popH rs h)
     p = pop-contents (howOf sts) h r rs e n o
+
     fl : Flows sts m es (r ∷ contents (howOf sts) (popH rs h)) os
     fl = subst (λ (x : List Row). Flows sts m es x os) p w
+
     alv : Alive (Has (contents (howOf sts) (popH rs h))) (h .segs)
     alv = alive-above (Has (r ∷ contents (howOf sts) (popH rs h))) (Has (contents (howOf sts) (popH rs h))) (r .at) (has-later r (contents (howOf sts) (popH rs h))) Free (h .segs) (o .segs) (subst (Each (Under (h .segs))) e (o .below) .0) (subst (λ (x : List Row). Alive (Has x) (h .segs)) p a)
+
     joined : (t : Went sts m es f (popH rs h) (onward sts r) os ems) → Emits sts m es f k (t .held) (os ++ ems .outs) (more (queueOf (t .held))) → Emits sts m es f (suc k) h os (then' (ems .outs) (more (ems .queue)))
     joined t b =
         subst (λ (q : Queue). Emits sts m es f (suc k) h os (then' (ems .outs) (more q))) (sym (t .is))
-          (record { held = b .held; is = b .is; pages = b .pages; order = b .order; none = b .none; lean = b .lean; few = omega (arith, b .few, t .few, ap length e); alive = b .alive; flows = subst (Flows sts m es (contents (howOf sts) (b .held))) (append-assoc os (ems .outs) (more (queueOf (t .held)) .outs)) (b .flows); next = b .next ∙ t .next;
-                    most = le; outs = paid; less = λ x y. lt })
+        (record {
+          held = b .held;
+          is = b .is;
+          pages = b .pages;
+          order = b .order;
+          none = b .none;
+          lean = b .lean;
+          few = omega (arith, b .few, t .few, ap length e);
+          alive = b .alive;
+          flows = subst (Flows sts m es (contents (howOf sts) (b .held))) (append-assoc os (ems .outs) (more (queueOf (t .held)) .outs)) (b .flows);
+          next = b .next ∙ t .next;
+          most = le;
+          outs = paid;
+          less = λ x y. lt;
+        })
       where
         lt : load (length sts) (contents (howOf sts) (b .held)) < load (length sts) (contents (howOf sts) h)
         lt = omega (arith, b .most, ap (load (length sts)) (t .same), ap (load (length sts)) p, load-rest (howOf sts) (length sts) (r .at .stage) (drop (suc (r .at .stage)) sts) (eventOf r) (contents (howOf sts) (popH rs h)) (fl .stages .0))
+
         le : load (length sts) (contents (howOf sts) (b .held)) ≤ load (length sts) (contents (howOf sts) h)
         le = omega (arith, lt)
+
         paid : load (length sts) (contents (howOf sts) (b .held)) + length (ems .outs ++ more (queueOf (t .held)) .outs) ≤ load (length sts) (contents (howOf sts) h)
         paid = omega (arith, b .outs, one-out (howOf sts) (onward sts r) (queueOf (popH rs h)), length-append (ems .outs) (more (queueOf (t .held)) .outs), ap (load (length sts)) (t .same), ap (load (length sts)) p, load-rest (howOf sts) (length sts) (r .at .stage) (drop (suc (r .at .stage)) sts) (eventOf r) (contents (howOf sts) (popH rs h)) (fl .stages .0))
+
     go : (b : Bool) → leb (r .at .end) m ≡ b → Emits sts m es f (suc k) h os (cond b (then' (ems .outs) (more (ems .queue))) (record { queue = queueOf h; outs = [] }))
     go true l =
         let t : Went sts m es f (popH rs h) (onward sts r) os ems = go-on sts m es f (popH rs h) os (onward sts r) i (pop-order h r rs e o) n (record { segs = ln .segs; source = ln .source }) alv (flows-pop (howOf sts) sts m es r (contents (howOf sts) (popH rs h)) os (fits sts z) (subst Sorted p (sorted-contents (howOf sts) h)) (leb-true (r .at .end) m l) fl) in
@@ -280,9 +313,9 @@ ready-rows : (z : Sizes) → SizesOk z → (m : ℕ) (q : Queue) (step : Step) �
 unfolding dueRows
 ready-rows z zo m q step e =
     one-of m (ltb (z .buffer) (length (q .buffer))) (Spill (fullest (q .segments) (q .buffer) .number)) step (cond (ltb (z .front) (length (q .front))) (Do Lower) (dueSource m (q .source) q)) q
-      (λ (t : ltb (z .buffer) (length (q .buffer)) ≡ true). (omega (arith, ltb-true (z .buffer) (length (q .buffer)) t), refl))
-      (one-of m (ltb (z .front) (length (q .front))) Lower step (dueSource m (q .source) q) q
-        (λ (t : ltb (z .front) (length (q .front)) ≡ true). omega (arith, ltb-true (z .front) (length (q .front)) t)) (ready-source m (q .source) q step refl)) e
+    (λ (t : ltb (z .buffer) (length (q .buffer)) ≡ true). (omega (arith, ltb-true (z .buffer) (length (q .buffer)) t), refl))
+    (one-of m (ltb (z .front) (length (q .front))) Lower step (dueSource m (q .source) q) q
+    (λ (t : ltb (z .front) (length (q .front)) ≡ true). omega (arith, ltb-true (z .front) (length (q .front)) t)) (ready-source m (q .source) q step refl)) e
 
 -- a crowded level has more segments than there should be
 pub crowd-tells : (most : ℕ) (all ss : List Seg) (v : ℕ) → crowd most all ss ≡ crowded v → most < atLevel v all
@@ -343,10 +376,19 @@ pub record Advance (sts : List Stage) (m : ℕ) (es : List Event) (f : Pages) (h
 kept-advance : (sts : List Stage) (m : ℕ) (es : List Event) (f : Pages) (h : Held) (os : List Event) (a : After) (src : List Paged) (below : Key → Type 0) (fst : ℕ) → Lean h → Alive (Has (contents (howOf sts) h)) (h .segs) → Flows sts m es (contents (howOf sts) h) os →
     (k : Kept (howOf sts) f h a src below fst) → Falls (howOf sts) h (k .held) → Advance sts m es f h os (quiet a)
 kept-advance sts m es f h os a src below fst ln al w k fa =
-    record { held = k .held; is = k .is; pages = k .pages; order = k .order;
-             alive = subst (λ (x : List Row). Alive (Has x) (k .held .segs)) (sym (k .same)) (k .live (Has (contents (howOf sts) h)) (each-has (contents (howOf sts) h)) al);
-             flows = subst (λ (x : List Row). Flows sts m es x (os ++ [])) (sym (k .same)) (subst (Flows sts m es (contents (howOf sts) h)) (sym (append-nil os)) w);
-             fresh = k .fresh; lean = k .lean ln; few = k .few; outs = omega (arith, ap (load (length sts)) (k .same)); falls = inr (omega (arith, ap (load (length sts)) (k .same)), fa) }
+    record {
+      held = k .held;
+      is = k .is;
+      pages = k .pages;
+      order = k .order;
+      alive = subst (λ (x : List Row). Alive (Has x) (k .held .segs)) (sym (k .same)) (k .live (Has (contents (howOf sts) h)) (each-has (contents (howOf sts) h)) al);
+      flows = subst (λ (x : List Row). Flows sts m es x (os ++ [])) (sym (k .same)) (subst (Flows sts m es (contents (howOf sts) h)) (sym (append-nil os)) w);
+      fresh = k .fresh;
+      lean = k .lean ln;
+      few = k .few;
+      outs = omega (arith, ap (load (length sts)) (k .same));
+      falls = inr (omega (arith, ap (load (length sts)) (k .same)), fa);
+    }
 
 kept-weigh : (how : ℕ → Sum) (f : Pages) (h : Held) (a : After) (src : List Paged) (below : Key → Type 0) (fst : ℕ) → (k : Kept how f h a src below fst) → weigh (k .held) ≡ weighQ (a .queue) src
 kept-weigh how f h a src below fst k = ap (λ (q : Queue). weighQ q (k .held .source)) (sym (k .is)) ∙ ap (weighQ (a .queue)) (k .source)
@@ -383,30 +425,39 @@ lower-weigh how xs (y ∷ ys) q src l e = omega (arith, length-onto how (y ∷ y
 lower-low : (how : ℕ → Sum) (h : Held) (xs ys : List Row) → xs ++ ys ≡ h .front → Order h → 1 ≤ length xs → 1 ≤ length ys → (k : Key) × Has (contents how h) k × belowOf ys h k
 lower-low how h xs [] e o lx ly = absurd (omega arith)
 lower-low how h [] (y ∷ ys) e o lx ly = absurd (omega arith)
-lower-low how h (x ∷ xs) (y ∷ ys) e o lx ly =
-    (x .at, Rattle.book.proofs.Lists.each-left (Has (contents how h)) (x ∷ xs) (y ∷ ys) (subst (Each (Has (contents how h))) (sym e) (Rattle.book.proofs.Lists.each-onto-inv (Has (contents how h)) how (h .front) (onto how (h .buffer) (onto how (under (h .segs)) (onto how (chainRows (h .source)) []))) (each-has (contents how h)) .0)) .0,
-     sorted-mid (x ∷ xs) y ys (subst Sorted (sym e) (o .front)) .0)
+lower-low how h (x ∷ xs) (y ∷ ys) e o lx ly = (
+  x .at,
+  Rattle.book.proofs.Lists.each-left (Has (contents how h)) (x ∷ xs) (y ∷ ys) (subst (Each (Has (contents how h))) (sym e) (Rattle.book.proofs.Lists.each-onto-inv (Has (contents how h)) how (h .front) (onto how (h .buffer) (onto how (under (h .segs)) (onto how (chainRows (h .source)) []))) (each-has (contents how h)) .0)) .0,
+  sorted-mid (x ∷ xs) y ys (subst Sorted (sym e) (o .front)) .0,
+)
 
 adv-lower : (z : Sizes) (sts : List Stage) (m : ℕ) (es : List Event) (f : Pages) (h : Held) (os : List Event) → Ready m Lower (queueOf h) → HeldIn f h → Order h → Lean h → Alive (Has (contents (howOf sts) h)) (h .segs) → Flows sts m es (contents (howOf sts) h) os → Advance sts m es f h os (do' z sts m Lower Blank (queueOf h))
 adv-lower z sts m es f h os r hh o ln al w = done (lower-keeps (howOf sts) f n h hh o)
   where
     n : ℕ
     n = length (h .front) / 2
+
     xs : List Row
     xs = take n (h .front)
+
     ys : List Row
     ys = drop n (h .front)
+
     lx : 1 ≤ length xs
     lx = omega (arith, length-take n (h .front))
+
     ly : 1 ≤ length ys
     ly = omega (arith, length-drop n (h .front))
+
     both : length xs + length ys ≡ length (h .front)
     both = omega (arith, length-take n (h .front), length-drop n (h .front))
+
     done : Kept (howOf sts) f h (lower (howOf sts) n (queueOf h)) (h .source) (belowOf ys h) (levelOf (h .segs)) → Advance sts m es f h os (quiet (lower (howOf sts) n (queueOf h)))
     done k = kept-advance sts m es f h os (lower (howOf sts) n (queueOf h)) (h .source) (belowOf ys h) (levelOf (h .segs)) ln al w k (λ p x. inl (rank-low (howOf sts) p (k .held) low, omega (arith, lower-weigh (howOf sts) xs ys (queueOf h) (h .source) ly both, kept-weigh (howOf sts) f h (lower (howOf sts) n (queueOf h)) (h .source) (belowOf ys h) (levelOf (h .segs)) k)))
       where
         b : (x : Key) × Has (contents (howOf sts) h) x × belowOf ys h x
         b = lower-low (howOf sts) h xs ys (take-append-drop n (h .front)) o lx ly
+
         low : Low (howOf sts) (k .held)
         low = (b .0, subst (λ (z : List Row). Has z (b .0)) (sym (k .same)) (b .1), k .low (b .0) (b .2))
 
@@ -429,12 +480,13 @@ adv-pack z zo sts m es f h os v r hh o ln al w = go (belowLevel v ss + atLevel v
   where
     ss : List Seg
     ss = heads (h .segs)
+
     go : (i k : ℕ) → 1 ≤ i → 2 ≤ k → i + k ≤ length ss → Advance sts m es f h os (quiet (pack i k (queueOf h)))
     go zero k a b c = absurd (omega (arith, a))
     go (suc i) zero a b c = absurd (omega (arith, b))
     go (suc i) (suc zero) a b c = absurd (omega (arith, b))
     go (suc i) (suc (suc k)) a b c = tidy sts m es f h os (pack (suc i) (suc (suc k)) (queueOf h)) (h .source) ln al w (pack-keeps (howOf sts) f i k h (omega (arith, c)) hh o)
-      (pack-weigh (take (suc i) ss) (take (suc (suc k)) (drop (suc i) ss)) (drop (suc (suc k)) (drop (suc i) ss)) (queueOf h) (h .source)
+        (pack-weigh (take (suc i) ss) (take (suc (suc k)) (drop (suc i) ss)) (drop (suc (suc k)) (drop (suc i) ss)) (queueOf h) (h .source)
         (omega (arith, b, c, length-take (suc (suc k)) (drop (suc i) ss), length-drop (suc i) ss))
         (omega (arith, c, length-take (suc i) ss, length-take (suc (suc k)) (drop (suc i) ss), length-drop (suc (suc k)) (drop (suc i) ss), length-drop (suc i) ss)))
 
@@ -460,7 +512,7 @@ adv-sift : (z : Sizes) (sts : List Stage) (m : ℕ) (es : List Event) (f : Pages
 adv-sift z sts m es f h os [] e r i o ln al w = nil-page (Adv z sts m es f h os Sift) (r .0) (ap headOf (sym e) ∙ r .1)
 adv-sift z sts m es f h os (p ∷ ps) e r i o ln al w =
     subst (λ (x : Link). Advance sts m es f h os (quiet (sift (howOf sts) (pageOf f x) (queueOf h)))) (ap headOf (sym e))
-      (tidy sts m es f h os (sift (howOf sts) (f (p .number)) (queueOf h)) ps ln al w (sift-keeps (howOf sts) f h p ps e i o) (sift-weigh (howOf sts) f h p ps e (subst (ChainIn f (h .next)) e (i .1) .1)))
+    (tidy sts m es f h os (sift (howOf sts) (f (p .number)) (queueOf h)) ps ln al w (sift-keeps (howOf sts) f h p ps e i o) (sift-weigh (howOf sts) f h p ps e (subst (ChainIn f (h .next)) e (i .1) .1)))
 
 -- OPEN AND UNPACK are due only where no row is below the first low
 no-low : (how : ℕ → Sum) (h : Held) → Order h → h .front ≡ [] → h .source ≡ [] → Low how h → ⊥
@@ -469,9 +521,10 @@ no-low how h o e n l = bef-self (l .0) (has-each (Bef (l .0)) (contents how h) (
   where
     others : List Row
     others = onto how (h .buffer) (onto how (under (h .segs)) (onto how (chainRows (h .source)) []))
+
     after : Each (Bef (l .0)) others
     after = each-onto (Bef (l .0)) how (h .buffer) (onto how (under (h .segs)) (onto how (chainRows (h .source)) [])) (each-like (Over (h .segs)) (Bef (l .0)) (λ k. over-after (h .segs) (l .0) k (l .2)) (h .buffer) (o .above))
-      (each-onto (Bef (l .0)) how (under (h .segs)) (onto how (chainRows (h .source)) []) (segs-after Free (h .segs) (l .0) (o .segs) (l .2)) (subst (λ (c : List Paged). Each (Bef (l .0)) (onto how (chainRows c) [])) (sym n) tt))
+        (each-onto (Bef (l .0)) how (under (h .segs)) (onto how (chainRows (h .source)) []) (segs-after Free (h .segs) (l .0) (o .segs) (l .2)) (subst (λ (c : List Paged). Each (Bef (l .0)) (onto how (chainRows c) [])) (sym n) tt))
 
 adv-open : (z : Sizes) (sts : List Stage) (m : ℕ) (es : List Event) (f : Pages) (h : Held) (os : List Event) (ss : Segs) → h .segs ≡ ss → Ready m Open (queueOf h) → HeldIn f h → Order h → Lean h → Alive (Has (contents (howOf sts) h)) (h .segs) → Flows sts m es (contents (howOf sts) h) os → Adv z sts m es f h os Open
 adv-open z sts m es f h os none e r i o ln al w = absurd (let q : heads none ≡ r .2 ∷ r .3 = ap heads (sym e) ∙ r .4 in let k : _≡_ {A = ℕ} 0 1 = cc in omega arith)
@@ -484,6 +537,7 @@ adv-open z sts m es f h os (plain low c ss) e r i o ln al w = done (open-keeps (
       where
         lowest : Low (howOf sts) (k .held)
         lowest = (low, subst (λ (x : List Row). Has x low) (sym (k .same)) (subst (Alive (Has (contents (howOf sts) h))) e al .0), k .low low (subst (SegsOk Free) e (o .segs) .1))
+
         fa : Falls (howOf sts) h (k .held)
         fa zero x = absurd (no-low (howOf sts) h o (r .1) (no-source (h .source) (r .0)) x)
         fa (suc p) x = inr (p, refl, rank-low (howOf sts) p (k .held) lowest)
@@ -523,9 +577,12 @@ abbrev Goal : Sizes → List Stage → ℕ → List Event → Pages → Queue �
 Goal z sts m es f q os step = (d : Done) × (d ≡ do' z sts m step (pageOf f (shows step q)) q) × Sound sts m es (written (d .writes) f) (d .queue) (os ++ d .outs) × Fresh (q .next) (d .queue .next) (d .writes)
 
 advanced : (z : Sizes) (sts : List Stage) (m : ℕ) (es : List Event) (f : Pages) (h : Held) (os : List Event) (step : Step) → rowsOf h ≤ length es → Adv z sts m es f h os step → Goal z sts m es f (queueOf h) os step
-advanced z sts m es f h os step few a =
-    (do' z sts m step (pageOf f (shows step (queueOf h))) (queueOf h), refl, record { held = a .held; is = a .is; pages = a .pages; order = a .order; alive = a .alive; lean = a .lean; few = omega (arith, few, a .few); flows = a .flows },
-     subst (λ (n : ℕ). Fresh (h .next) n (do' z sts m step (pageOf f (shows step (queueOf h))) (queueOf h) .writes)) (ap (λ (q : Queue). q .next) (sym (a .is))) (a .fresh))
+advanced z sts m es f h os step few a = (
+  do' z sts m step (pageOf f (shows step (queueOf h))) (queueOf h),
+  refl,
+  record { held = a .held; is = a .is; pages = a .pages; order = a .order; alive = a .alive; lean = a .lean; few = omega (arith, few, a .few); flows = a .flows },
+  subst (λ (n : ℕ). Fresh (h .next) n (do' z sts m step (pageOf f (shows step (queueOf h))) (queueOf h) .writes)) (ap (λ (q : Queue). q .next) (sym (a .is))) (a .fresh),
+)
 
 pub sound-done : SoundDone
 sound-done z zo sts sz m es f q os step s e =
@@ -567,7 +624,7 @@ rests-rows : (z : Sizes) (m : ℕ) (q : Queue) → dueRows z m q ≡ Nothing →
 unfolding dueRows
 rests-rows z m q e =
     not-due (ltb (z .buffer) (length (q .buffer))) (Spill (fullest (q .segments) (q .buffer) .number)) (cond (ltb (z .front) (length (q .front))) (Do Lower) (dueSource m (q .source) q)) (Rests m q)
-      (not-due (ltb (z .front) (length (q .front))) Lower (dueSource m (q .source) q) (Rests m q) (rests-source m (q .source) q refl)) e
+    (not-due (ltb (z .front) (length (q .front))) Lower (dueSource m (q .source) q) (Rests m q) (rests-source m (q .source) q refl)) e
 
 rests-crowd : (z : Sizes) (m : ℕ) (c : Crowd) (q : Queue) → dueCrowd z m c q ≡ Nothing → Rests m q
 unfolding dueCrowd
@@ -593,6 +650,7 @@ nothing-ended how m h o r = go (r .1)
   where
     n : h .source ≡ []
     n = no-source (h .source) (r .0)
+
     go : ((h .front ≡ []) × (heads (h .segs) ≡ [])) ⊎ ((x : Row) × (rs : List Row) × (h .front ≡ x ∷ rs) × (m < x .at .end)) → Each (λ k. m < k .end) (contents how h)
     go (inl p) =
         let s : h .segs ≡ none = no-segs (h .segs) (p .1) in
@@ -621,6 +679,7 @@ sound-taken (st ∷ sts) z l m es e f q os t s = go (eqb (word (st .keep') e) 0)
   where
     how : ℕ → Sum
     how = howOf (st ∷ sts)
+
     go : (b : Bool) → Flows (st ∷ sts) m (e ∷ es) (cond b (contents how (s .held)) (add how (rowOf st 0 e) (contents how (s .held)))) os → Sound (st ∷ sts) m (e ∷ es) f (cond b q (place how (rowOf st 0 e) q)) os
     go true w = record { held = s .held; is = s .is; pages = s .pages; order = s .order; alive = s .alive; lean = s .lean; few = omega (arith, s .few); flows = w }
     go false w = record { held = placeH how (rowOf st 0 e) (s .held); is = ap (place how (rowOf st 0 e)) (s .is) ∙ place-is how (rowOf st 0 e) (s .held); pages = s .pages; order = place-order how (rowOf st 0 e) (s .held) (s .order); alive = subst (λ (x : List Row). Alive (Has x) (s .held .segs)) (sym (place-contents how (rowOf st 0 e) (s .held))) (alive-like (Has (contents how (s .held))) (Has (add how (rowOf st 0 e) (contents how (s .held)))) (has-add how (rowOf st 0 e) (contents how (s .held))) (s .held .segs) (s .alive)); lean = record { segs = s .lean .segs; source = s .lean .source }; few = omega (arith, s .few, place-few how (rowOf st 0 e) (s .held)); flows = subst (λ (x : List Row). Flows (st ∷ sts) m (e ∷ es) x os) (sym (place-contents how (rowOf st 0 e) (s .held))) w }
@@ -645,14 +704,17 @@ step-on z zo sts sz m es l p v il ip iw f h os hh o ln fw al w c = go (due z m (
       where
         d : Done
         d = do' z sts m step (pageOf f (shows step (queueOf h))) (queueOf h)
+
         back : (a : Adv z sts m es f h os step) → Comes z sts m es (written (d .writes) f) (queueOf (a .held)) (os ++ d .outs) → Comes z sts m es f (queueOf h) os
         back a r = (d .outs ++ r .0, goes step d e refl (subst (λ (q : Queue). Runs z sts m (written (d .writes) f) q (r .0)) (sym (a .is)) (r .1)), sym (append-assoc os (d .outs) (r .0)) ∙ r .2)
+
         on : Adv z sts m es f h os step → Comes z sts m es f (queueOf h) os
         on a = back a (by (a .falls))
           where
             by2 : left-of sts (a .held) ≤ left-of sts h → (Rank (howOf sts) p (a .held) × (weigh (a .held) < weigh h)) ⊎ ((q : ℕ) × (suc q ≡ p) × Rank (howOf sts) q (a .held)) → Comes z sts m es (written (d .writes) f) (queueOf (a .held)) (os ++ d .outs)
             by2 t (inl x) = iw (written (d .writes) f) (a .held) (os ++ d .outs) (a .pages) (a .order) (a .lean) (omega (arith, fw, a .few)) (a .alive) (a .flows) (omega (arith, c .0, t), x .0, omega (arith, c .2, x .1))
             by2 t (inr x) = ip (x .0) (x .1) (written (d .writes) f) (a .held) (os ++ d .outs) (a .pages) (a .order) (a .lean) (omega (arith, fw, a .few)) (a .alive) (a .flows) (omega (arith, c .0, t), x .2)
+
             by : (left-of sts (a .held) < left-of sts h) ⊎ ((left-of sts (a .held) ≤ left-of sts h) × Falls (howOf sts) h (a .held)) → Comes z sts m es (written (d .writes) f) (queueOf (a .held)) (os ++ d .outs)
             by (inl t) = il (written (d .writes) f) (a .held) (os ++ d .outs) (a .pages) (a .order) (a .lean) (omega (arith, fw, a .few)) (a .alive) (a .flows) (omega (arith, c .0, t))
             by (inr t) = by2 (t .0) (t .1 p (c .1))

@@ -38,7 +38,7 @@ fell-of z sts m es f h os step few a = record { sound = record { held = a .held;
 fell : (z : Sizes) → SizesOk z → (sts : List Stage) → Sized sts → (m : ℕ) (es : List Event) (f : Pages) (q : Queue) (os : List Event) (step : Step) (s : Sound sts m es f q os) → due z m q ≡ Do step → Fell z sts m es f (s .held) os step q
 fell z zo sts sz m es f q os step s e =
     subst (λ (x : Queue). Fell z sts m es f (s .held) os step x) (sym (s .is))
-      (fell-of z sts m es f (s .held) os step (s .few) (advance z zo sts sz m es f (s .held) os step (ready z zo m (queueOf (s .held)) step (subst (λ (x : Queue). due z m x ≡ Do step) (s .is) e)) (s .pages) (s .order) (s .lean) (s .alive) (s .flows)))
+    (fell-of z sts m es f (s .held) os step (s .few) (advance z zo sts sz m es f (s .held) os step (ready z zo m (queueOf (s .held)) step (subst (λ (x : Queue). due z m x ≡ Do step) (s .is) e)) (s .pages) (s .order) (s .lean) (s .alive) (s .flows)))
 
 -- THE MEASURE: l times all that is behind it, r times what is behind it, v
 abbrev measure : (e l r v : ℕ) → ℕ
@@ -75,48 +75,66 @@ mark-tidy z zo p fine ls e x c k g w d = go (f .falls)
   where
     sts : List Stage
     sts = p .stages
+
     m : ℕ
     m = watermark (p .late) (x .ledger .logs)
+
     es : List Event
     es = takenEvents (p .late) ls (x .ledger .logs)
+
     f : Fell z sts m es (x .row) (g .queue .held) (cameOut x) k (x .ledger .queue)
     f = fell z zo sts (fine .sized) m es (x .row) (x .ledger .queue) (cameOut x) k (g .queue) d
+
     t : Done
     t = do' z sts m k (pageOf (x .row) (shows k (x .ledger .queue))) (x .ledger .queue)
+
     y : Book
     y = afterTurn (turnOf z p (Tidy k) x) x
+
     s : SoundBook z p ls y
     s = sound-turn z zo p fine ls x (Tidy k) (g .sound) w
+
     h : Held
     h = f .sound .held
+
     q : Sound sts m es (written (t .writes) (x .row)) (t .queue) (cameOut y)
     q = record { held = h; is = f .sound .is; pages = f .sound .pages; order = f .sound .order; alive = f .sound .alive; lean = f .sound .lean; few = f .sound .few; flows = subst (Flows sts m es (contents (howOf sts) h)) (append-assoc (outsOf (x .out) (x .ledger .pages)) (x .ledger .tail) (t .outs)) (f .sound .flows) }
+
     few : rowsOf h ≤ e
     few = omega (arith, f .sound .few, g .taken)
+
     light : weigh h ≤ 6 * e
     light = omega (arith, weigh-few (howOf sts) h (f .sound .order) (f .sound .lean) (f .sound .alive), few)
+
     deep : levelOf (h .segs) ≤ e
     deep = omega (arith, level-few (h .segs) (f .sound .order .segs) (f .sound .lean .segs), lows-few (howOf sts) h (f .sound .order) (f .sound .alive), few)
+
     tail : length (x .ledger .tail ++ t .outs) ≡ length (x .ledger .tail) + length (t .outs)
     tail = length-append (x .ledger .tail) (t .outs)
+
     go : (load (length sts) (contents (howOf sts) h) < load (length sts) (contents (howOf sts) (g .queue .held))) ⊎ Falls (howOf sts) (g .queue .held) h → Sinks z p ls e y c
     go (inl a) = by (g .l) refl
       where
         by : (n : ℕ) → n ≡ g .l → Sinks z p ls e y c
         by zero u = absurd (omega (arith, u, g .left, a))
-        by (suc n) u =
-            (measure e n (suc (levelOf (h .segs))) (weigh h), subst (λ (b : ℕ). measure e n (suc (levelOf (h .segs))) (weigh h) < b) (ap (λ (i : ℕ). measure e i (g .r) (g .v)) u ∙ sym (g .is)) (less-load e n (g .r) (g .v) (suc (levelOf (h .segs))) (weigh h) (omega (arith, deep)) light),
-             record { sound = s; queue = q; taken = g .taken; l = n; r = suc (levelOf (h .segs)); v = weigh h; left = omega (arith, g .left, u, a, f .outs, tail); rank = inr (omega arith); weight = omega arith; is = refl })
+        by (suc n) u = (
+          measure e n (suc (levelOf (h .segs))) (weigh h),
+          subst (λ (b : ℕ). measure e n (suc (levelOf (h .segs))) (weigh h) < b) (ap (λ (i : ℕ). measure e i (g .r) (g .v)) u ∙ sym (g .is)) (less-load e n (g .r) (g .v) (suc (levelOf (h .segs))) (weigh h) (omega (arith, deep)) light),
+          record { sound = s; queue = q; taken = g .taken; l = n; r = suc (levelOf (h .segs)); v = weigh h; left = omega (arith, g .left, u, a, f .outs, tail); rank = inr (omega arith); weight = omega arith; is = refl },
+        )
     go (inr a) = on (a (g .r) (g .rank))
       where
         left : 2 * load (length sts) (contents (howOf sts) h) + length (x .ledger .tail ++ t .outs) ≤ g .l
         left = omega (arith, g .left, f .outs, tail)
+
         on : (Rank (howOf sts) (g .r) h × (weigh h < weigh (g .queue .held))) ⊎ ((i : ℕ) × (suc i ≡ g .r) × Rank (howOf sts) i h) → Sinks z p ls e y c
         on (inl b) =
             (measure e (g .l) (g .r) (weigh h), omega (arith, g .is, b .1, g .weight), record { sound = s; queue = q; taken = g .taken; l = g .l; r = g .r; v = weigh h; left = left; rank = b .0; weight = omega arith; is = refl })
-        on (inr (i, u, b)) =
-            (measure e (g .l) i (weigh h), subst (λ (n : ℕ). measure e (g .l) i (weigh h) < n) (ap (λ (j : ℕ). measure e (g .l) j (g .v)) u ∙ sym (g .is)) (less-rank e (g .l) i (g .v) (weigh h) light),
-             record { sound = s; queue = q; taken = g .taken; l = g .l; r = i; v = weigh h; left = left; rank = b; weight = omega arith; is = refl })
+        on (inr (i, u, b)) = (
+          measure e (g .l) i (weigh h),
+          subst (λ (n : ℕ). measure e (g .l) i (weigh h) < n) (ap (λ (j : ℕ). measure e (g .l) j (g .v)) u ∙ sym (g .is)) (less-rank e (g .l) i (g .v) (weigh h) light),
+          record { sound = s; queue = q; taken = g .taken; l = g .l; r = i; v = weigh h; left = left; rank = b; weight = omega arith; is = refl },
+        )
 
 some-steps : (e : ℕ) → 1 ≤ ranks e * weights e
 some-steps e = let a : 1 * weights e ≤ ranks e * weights e = mul-le-mul-right (weights e) (omega arith) in omega arith
@@ -127,14 +145,26 @@ mark-publish z zo p fine ls e x c g w n = by (g .l) refl
   where
     y : Book
     y = afterTurn (turnOf z p Publish x) x
+
     q : Sound (p .stages) (watermark (p .late) (x .ledger .logs)) (takenEvents (p .late) ls (x .ledger .logs)) (x .row) (x .ledger .queue) (cameOut y)
-    q = record { held = g .queue .held; is = g .queue .is; pages = g .queue .pages; order = g .queue .order; alive = g .queue .alive; lean = g .queue .lean; few = g .queue .few;
-                 flows = subst (Flows (p .stages) (watermark (p .late) (x .ledger .logs)) (takenEvents (p .late) ls (x .ledger .logs)) (contents (howOf (p .stages)) (g .queue .held))) (publish-out z p x) (g .queue .flows) }
+    q = record {
+      held = g .queue .held;
+      is = g .queue .is;
+      pages = g .queue .pages;
+      order = g .queue .order;
+      alive = g .queue .alive;
+      lean = g .queue .lean;
+      few = g .queue .few;
+      flows = subst (Flows (p .stages) (watermark (p .late) (x .ledger .logs)) (takenEvents (p .late) ls (x .ledger .logs)) (contents (howOf (p .stages)) (g .queue .held))) (publish-out z p x) (g .queue .flows);
+    }
+
     by : (i : ℕ) → i ≡ g .l → Sinks z p ls e y c
     by zero u = absurd (omega (arith, u, g .left, n, zo .4))
-    by (suc i) u =
-        (measure e i (g .r) (g .v), omega (arith, g .is ∙ ap (λ (j : ℕ). measure e j (g .r) (g .v)) (sym u), suc-mul i (ranks e * weights e), some-steps e),
-         record { sound = sound-turn z zo p fine ls x Publish (g .sound) w; queue = q; taken = g .taken; l = i; r = g .r; v = g .v; left = omega (arith, g .left, u, n, zo .4, length-drop (z .outs) (x .ledger .tail)); rank = g .rank; weight = g .weight; is = refl })
+    by (suc i) u = (
+      measure e i (g .r) (g .v),
+      omega (arith, g .is ∙ ap (λ (j : ℕ). measure e j (g .r) (g .v)) (sym u), suc-mul i (ranks e * weights e), some-steps e),
+      record { sound = sound-turn z zo p fine ls x Publish (g .sound) w; queue = q; taken = g .taken; l = i; r = g .r; v = g .v; left = omega (arith, g .left, u, n, zo .4, length-drop (z .outs) (x .ledger .tail)); rank = g .rank; weight = g .weight; is = refl },
+    )
 
 -- EACH STEP LOWERS IT
 mark-turn : (z : Sizes) → SizesOk z → (p : Plan) → PlanFine p → (ls : List (List Entry)) (e : ℕ) (x : Book) (c : ℕ) (k : Task) → Marked z p ls e x c → wanted z (p .late) (x .ledger) ≡ Want k → Sinks z p ls e (afterTurn (turnOf z p k x) x) c
@@ -143,9 +173,11 @@ mark-turn z zo p fine ls e x c k g w = go (leb (z .outs) (length (x .ledger .tai
   where
     d : Due
     d = due z (watermark (p .late) (x .ledger .logs)) (x .ledger .queue)
+
     tidy : (b : Due) → d ≡ b → wantedBy b ≡ Want k → Sinks z p ls e (afterTurn (turnOf z p k x) x) c
     tidy Nothing q u = absurd (let i : _≡_ {A = ℕ} 0 1 = cc in omega arith)
     tidy (Do step) q u = let i : Tidy step ≡ k = cc in subst (λ (b : Task). Sinks z p ls e (afterTurn (turnOf z p b x) x) c) i (mark-tidy z zo p fine ls e x c step g (w ∙ ap Want (sym i)) q)
+
     go : (b : Bool) → leb (z .outs) (length (x .ledger .tail)) ≡ b → cond b (Want Publish) (wantedBy d) ≡ Want k → Sinks z p ls e (afterTurn (turnOf z p k x) x) c
     go true t u = let i : Publish ≡ k = cc in subst (λ (b : Task). Sinks z p ls e (afterTurn (turnOf z p b x) x) c) i (mark-publish z zo p fine ls e x c g (w ∙ ap Want (sym i)) (leb-true (z .outs) (length (x .ledger .tail)) t))
     go false t u = tidy d refl u
@@ -169,18 +201,25 @@ ends-soon z zo p fine ls x s = comes z zo p fine ls e (suc c) x c (omega arith) 
   where
     n : ℕ
     n = length (p .stages)
+
     e : ℕ
     e = length (takenEvents (p .late) ls (x .ledger .logs))
+
     c : ℕ
     c = mostSteps n e (length (x .ledger .tail))
+
     h : Held
     h = s .queue .held
+
     left : 2 * load n (contents (howOf (p .stages)) h) + length (x .ledger .tail) ≤ 2 * (n * e) + length (x .ledger .tail)
     left = omega (arith, load-rows (howOf (p .stages)) n h, mul-le-mul-left n (s .queue .few))
+
     light : weigh h ≤ 6 * e
     light = omega (arith, weigh-few (howOf (p .stages)) h (s .queue .order) (s .queue .lean) (s .queue .alive), s .queue .few)
+
     deep : levelOf (h .segs) ≤ e
     deep = omega (arith, level-few (h .segs) (s .queue .order .segs) (s .queue .lean .segs), lows-few (howOf (p .stages)) h (s .queue .order) (s .queue .alive), s .queue .few)
+
     rank : (r : ℕ) → r ≡ e + 1 → Rank (howOf (p .stages)) r h
     rank zero i = absurd (omega arith)
     rank (suc r) i = inr (omega (arith, i, deep))
@@ -223,6 +262,7 @@ room-to-take z p x e = (room, takes)
   where
     room : hasRoom z (x .queue) ≡ true
     room = has-room z (watermark (p .late) (x .logs)) (x .queue) (rest-due z (p .late) x e .1)
+
     takes : (l : ℕ) (b : LogBox) → l < length (x .logs) → 1 ≤ length (newEvents b (takenOf l (x .logs))) → takenOf l (x .logs) .taken < takenOf l (took z (p .stages) l b x .logs) .taken
     takes l b h n =
         let t : Taken = takenOf l (x .logs) in

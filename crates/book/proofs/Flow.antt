@@ -59,6 +59,7 @@ cells-above s k (c ∷ cs) e a = go (cases-eq (c .at .stage) s) (cells-above s k
   where
     pair : c .at .stage ≡ s → order.Bef (k .end) (k .key) (c .at .end) (c .at .key)
     pair y = let b : Bef k (c .at) = a .0 in grind arith
+
     go : (c .at .stage ≡ s) ⊎ (c .at .stage ≡ s → ⊥) → order.Above (k .end) (k .key) (stageCells s cs) → order.Above (k .end) (k .key) (stageCells s (c ∷ cs))
     go (inl y) i = subst (order.Above (k .end) (k .key)) (sym (of-yes s c cs y)) (pair y, i)
     go (inr n) i = subst (order.Above (k .end) (k .key)) (sym (of-no s c cs n)) i
@@ -79,19 +80,22 @@ add-into how s n k v (c ∷ cs) h = go (tri a (c .at)) (add-into how s n k v cs 
   where
     a : Key
     a = record { end = n; stage = s; key = k }
+
     r : Row
     r = record { at = a; value = first (how s) v }
+
     go : Tri a (c .at) → stageCells s (add how r cs) ≡ into (how s) n k v (stageCells s cs) → stageCells s (add how r (c ∷ cs)) ≡ into (how s) n k v (stageCells s (c ∷ cs))
     go (lo p) i = rw (add-lo how r c cs p) (of-yes s r (c ∷ cs) refl ∙ sym (MS.into-above (how s) n k v (stageCells s (c ∷ cs)) (cells-above s a (c ∷ cs) refl (p, each-like (Bef (c .at)) (Bef a) (λ q. bef-trans a (c .at) q p) cs (h .0)))))
     go (eq p) i = rw (add-eq how r c cs p) (of-yes s (join how c r) cs (ap (λ (q : Key). q .stage) (sym p)) ∙ same ∙ sym (ap (into (how s) n k v) (of-yes s c cs (ap (λ (q : Key). q .stage) (sym p)))))
       where
         same : cell (join how c r) ∷ stageCells s cs ≡ into (how s) n k v (cell c ∷ stageCells s cs)
         same = subst (λ (q : Key). record { end = q .end; key = q .key; value = put (how (q .stage)) (c .value) (first (how s) v) } ∷ stageCells s cs ≡ into (how s) n k v (record { end = q .end; key = q .key; value = c .value } ∷ stageCells s cs)) p
-          (ap (λ (y : ℕ). record { end = n; key = k; value = y } ∷ stageCells s cs) (put-first (how s) (c .value) v) ∙ sym (into-eq (how s) n k v (c .value) (stageCells s cs)))
+            (ap (λ (y : ℕ). record { end = n; key = k; value = y } ∷ stageCells s cs) (put-first (how s) (c .value) v) ∙ sym (into-eq (how s) n k v (c .value) (stageCells s cs)))
     go (hi p) i = rw (add-hi how r c cs p) (both (cases-eq (c .at .stage) s))
       where
         pair : c .at .stage ≡ s → order.Bef (c .at .end) (c .at .key) n k
         pair y = let b : Bef (c .at) a = p in grind arith
+
         both : (c .at .stage ≡ s) ⊎ (c .at .stage ≡ s → ⊥) → stageCells s (c ∷ add how r cs) ≡ into (how s) n k v (stageCells s (c ∷ cs))
         both (inl y) = of-yes s c (add how r cs) y ∙ ap (λ (z : List Cell). cell c ∷ z) i ∙ sym (into-hi (how s) n k v (cell c) (stageCells s cs) (pair y)) ∙ sym (ap (into (how s) n k v) (of-yes s c cs y))
         both (inr m) = of-no s c (add how r cs) m ∙ i ∙ sym (ap (into (how s) n k v) (of-no s c cs m))
@@ -164,7 +168,7 @@ step-behind : (how : ℕ → Sum) (s : ℕ) (st : Stage) (e : Event) (gone : Lis
     gone ++ stageCells s (add how (rowOf st s e) x) ≡ laws.step st e (gone ++ stageCells s x)
 step-behind how s st e gone x q h sx t =
     rw t (ap (λ (z : List Cell). gone ++ z) (subst (λ (z : Sum). stageCells s (add how (record { at = record { end = endOf (st .size) (e .time); stage = s; key = word (st .key) e }; value = first z (word (st .value) e) }) x) ≡ into z (endOf (st .size) (e .time)) (word (st .key) e) (word (st .value) e) (stageCells s x)) q (add-into how s (endOf (st .size) (e .time)) (word (st .key) e) (word (st .value) e) x sx))
-      ∙ sym (into-behind (st .sum) (endOf (st .size) (e .time)) (word (st .key) e) (word (st .value) e) gone (stageCells s x) h))
+    ∙ sym (into-behind (st .sum) (endOf (st .size) (e .time)) (word (st .key) e) (word (st .value) e) gone (stageCells s x) h))
 
 -- LETTING GO OF THE LEAST ROW: it is an event of the next stage
 next-stage : (how : ℕ → Sum) (s : ℕ) (sts : List Stage) → Fits how (suc s) sts → (b : Key) (r : Row) (x : List Row) (es os : List Event) → Bef b (r .at) → Sorted x → r .at .stage ≡ s → Flow b (suc s) sts es (r ∷ x) os →
@@ -175,18 +179,26 @@ next-stage how s (st ∷ sts) fit b r x es os p sx t f = go (eqb (word (st .keep
   where
     without : (j : ℕ) → suc s ≤ j → stageCells j x ≡ stageCells j (r ∷ x)
     without j l = sym (of-no j r x (λ (q : r .at .stage ≡ j). omega arith))
+
     was : f .0 ++ stageCells (suc s) x ≡ cells st es
     was = ap (λ (z : List Cell). f .0 ++ z) (without (suc s) (omega arith)) ∙ f .1
+
     later : Earlier (endOf (st .size) (lessBy 1 (r .at .end))) (f .0)
     later = gones-earlier (suc s) (endOf (st .size) (lessBy 1 (r .at .end))) b (r .at) (f .0) p (omega arith) (omega (arith, lessBy-one (r .at .end), end-after (st .size) (lessBy 1 (r .at .end)) (fit .1))) (f .2)
+
     go : (k : Bool) → eqb (word (st .keep') (eventOf r)) 0 ≡ k → Flow (r .at) (suc s) (st ∷ sts) (es ++ (eventOf r ∷ [])) (rest how (cond k Gone (On (rowOf st (suc s) (eventOf r)))) x) (outs (cond k Gone (On (rowOf st (suc s) (eventOf r)))) os)
-    go true q =
-        (f .0, was ∙ sym (cells-end st es (eventOf r) ∙ ap (λ (z : Bool). cond z (cells st es) (into (st .sum) (endOf (st .size) (lessBy 1 (r .at .end))) (word (st .key) (eventOf r)) (word (st .value) (eventOf r)) (cells st es))) q),
-         gones-up (suc s) b (r .at) (f .0) (upto-bef b (r .at) p) (f .2), flow-same b (r .at) (suc (suc s)) sts (eventsOf (f .0)) (r ∷ x) x os (upto-bef b (r .at) p) (λ j l. without j (omega arith)) (f .3))
-    go false q =
-        (f .0, step-behind how (suc s) st (eventOf r) (f .0) x (fit .0) later sx q ∙ ap (laws.step st (eventOf r)) was ∙ sym (cells-end st es (eventOf r)),
-         gones-up (suc s) b (r .at) (f .0) (upto-bef b (r .at) p) (f .2),
-         flow-same b (r .at) (suc (suc s)) sts (eventsOf (f .0)) (r ∷ x) (add how (rowOf st (suc s) (eventOf r)) x) os (upto-bef b (r .at) p) (λ j l. add-other how j (rowOf st (suc s) (eventOf r)) x (λ (q : suc s ≡ j). omega arith) ∙ without j (omega arith)) (f .3))
+    go true q = (
+      f .0,
+      was ∙ sym (cells-end st es (eventOf r) ∙ ap (λ (z : Bool). cond z (cells st es) (into (st .sum) (endOf (st .size) (lessBy 1 (r .at .end))) (word (st .key) (eventOf r)) (word (st .value) (eventOf r)) (cells st es))) q),
+      gones-up (suc s) b (r .at) (f .0) (upto-bef b (r .at) p) (f .2),
+      flow-same b (r .at) (suc (suc s)) sts (eventsOf (f .0)) (r ∷ x) x os (upto-bef b (r .at) p) (λ j l. without j (omega arith)) (f .3),
+    )
+    go false q = (
+      f .0,
+      step-behind how (suc s) st (eventOf r) (f .0) x (fit .0) later sx q ∙ ap (laws.step st (eventOf r)) was ∙ sym (cells-end st es (eventOf r)),
+      gones-up (suc s) b (r .at) (f .0) (upto-bef b (r .at) p) (f .2),
+      flow-same b (r .at) (suc (suc s)) sts (eventsOf (f .0)) (r ∷ x) (add how (rowOf st (suc s) (eventOf r)) x) os (upto-bef b (r .at) p) (λ j l. add-other how j (rowOf st (suc s) (eventOf r)) x (λ (q : suc s ≡ j). omega arith) ∙ without j (omega arith)) (f .3),
+    )
 
 drop-tail : (s : ℕ) (xs : List Stage) (st : Stage) (sts : List Stage) → drop s xs ≡ st ∷ sts → drop (suc s) xs ≡ sts
 drop-tail zero [] st sts e = cc
@@ -211,19 +223,24 @@ pop-from how all s (st ∷ sts) d fit b r x es os p sx l m f = go (cases-eq (r .
   where
     onw : List Stage → Onward
     onw ys = onwardBy ys (suc (r .at .stage)) (eventOf r)
+
     go : (r .at .stage ≡ s) ⊎ (r .at .stage ≡ s → ⊥) → (suc s ≤ r .at .stage → Flow (r .at) (suc s) sts (eventsOf (f .0)) (rest how (onward all r) x) (outs (onward all r) os)) → Flow (r .at) s (st ∷ sts) es (rest how (onward all r) x) (outs (onward all r) os)
-    go (inl t) more =
-        (f .0 ++ (cell r ∷ []),
-         append-assoc (f .0) (cell r ∷ []) (stageCells s (rest how (onward all r) x)) ∙ ap (λ (z : List Cell). f .0 ++ (cell r ∷ z)) (rest-other how s (suc (r .at .stage)) (drop (suc (r .at .stage)) all) (eventOf r) x (λ (q : suc (r .at .stage) ≡ s). omega arith)) ∙ ap (λ (z : List Cell). f .0 ++ z) (sym (of-yes s r x t)) ∙ f .1,
-         gones-end s (r .at) (f .0) (cell r) (gones-up s b (r .at) (f .0) (upto-bef b (r .at) p) (f .2)) (subst (λ (z : ℕ). Upto (record { end = r .at .end; stage = z; key = r .at .key }) (r .at)) t (upto-self (r .at))),
-         subst (λ (es′ : List Event). Flow (r .at) (suc s) sts es′ (rest how (onward all r) x) (outs (onward all r) os)) (sym (events-end (f .0) r))
-           (subst (λ (o : Onward). Flow (r .at) (suc s) sts (eventsOf (f .0) ++ (eventOf r ∷ [])) (rest how o x) (outs o os)) (sym same) (next-stage how s sts (fit .2) b r x (eventsOf (f .0)) os p sx t (f .3))))
+    go (inl t) more = (
+      f .0 ++ (cell r ∷ []),
+      append-assoc (f .0) (cell r ∷ []) (stageCells s (rest how (onward all r) x)) ∙ ap (λ (z : List Cell). f .0 ++ (cell r ∷ z)) (rest-other how s (suc (r .at .stage)) (drop (suc (r .at .stage)) all) (eventOf r) x (λ (q : suc (r .at .stage) ≡ s). omega arith)) ∙ ap (λ (z : List Cell). f .0 ++ z) (sym (of-yes s r x t)) ∙ f .1,
+      gones-end s (r .at) (f .0) (cell r) (gones-up s b (r .at) (f .0) (upto-bef b (r .at) p) (f .2)) (subst (λ (z : ℕ). Upto (record { end = r .at .end; stage = z; key = r .at .key }) (r .at)) t (upto-self (r .at))),
+      subst (λ (es′ : List Event). Flow (r .at) (suc s) sts es′ (rest how (onward all r) x) (outs (onward all r) os)) (sym (events-end (f .0) r))
+          (subst (λ (o : Onward). Flow (r .at) (suc s) sts (eventsOf (f .0) ++ (eventOf r ∷ [])) (rest how o x) (outs o os)) (sym same) (next-stage how s sts (fit .2) b r x (eventsOf (f .0)) os p sx t (f .3))),
+    )
       where
         same : onward all r ≡ onwardBy sts (suc s) (eventOf r)
         same = ap (λ (z : ℕ). onwardBy (drop (suc z) all) (suc z) (eventOf r)) t ∙ ap (λ (z : List Stage). onwardBy z (suc s) (eventOf r)) (drop-tail s all st sts d)
-    go (inr t) more =
-        (f .0, ap (λ (z : List Cell). f .0 ++ z) (rest-other how s (suc (r .at .stage)) (drop (suc (r .at .stage)) all) (eventOf r) x (λ (q : suc (r .at .stage) ≡ s). omega arith) ∙ sym (of-no s r x t)) ∙ f .1,
-         gones-up s b (r .at) (f .0) (upto-bef b (r .at) p) (f .2), more (low t))
+    go (inr t) more = (
+      f .0,
+      ap (λ (z : List Cell). f .0 ++ z) (rest-other how s (suc (r .at .stage)) (drop (suc (r .at .stage)) all) (eventOf r) x (λ (q : suc (r .at .stage) ≡ s). omega arith) ∙ sym (of-no s r x t)) ∙ f .1,
+      gones-up s b (r .at) (f .0) (upto-bef b (r .at) p) (f .2),
+      more (low t),
+    )
       where
         low : (r .at .stage ≡ s → ⊥) → suc s ≤ r .at .stage
         low n = omega arith
@@ -257,9 +274,13 @@ stage-head n m (st ∷ sts) e h = h (omega arith)
 
 pub flows-pop : (how : ℕ → Sum) (sts : List Stage) (m : ℕ) (es : List Event) (r : Row) (x : List Row) (os : List Event) → Fits how 0 sts → Sorted (r ∷ x) → r .at .end ≤ m → Flows sts m es (r ∷ x) os → Flows sts m es (rest how (onward sts r) x) (outs (onward sts r) os)
 flows-pop how sts m es r x os fit sx l f =
-    record { bound = r .at; under = l; above = rest-each (Bef (r .at)) how (suc (r .at .stage)) (drop (suc (r .at .stage)) sts) (eventOf r) x (after-head how 0 (suc (r .at .stage)) sts r fit) (sx .0);
-             stages = rest-each (λ k. k .stage < length sts) how (suc (r .at .stage)) (drop (suc (r .at .stage)) sts) (eventOf r) x (stage-head (suc (r .at .stage)) (length sts) (drop (suc (r .at .stage)) sts) (eventOf r) (λ (h : 1 ≤ length (drop (suc (r .at .stage)) sts)). omega (arith, length-drop (suc (r .at .stage)) sts))) (f .stages .1);
-             flow = pop-from how sts 0 sts refl fit (f .bound) r x es os (f .above .0) (sx .1) (omega arith) (omega (arith, f .stages .0)) (f .flow) }
+    record {
+      bound = r .at;
+      under = l;
+      above = rest-each (Bef (r .at)) how (suc (r .at .stage)) (drop (suc (r .at .stage)) sts) (eventOf r) x (after-head how 0 (suc (r .at .stage)) sts r fit) (sx .0);
+      stages = rest-each (λ k. k .stage < length sts) how (suc (r .at .stage)) (drop (suc (r .at .stage)) sts) (eventOf r) x (stage-head (suc (r .at .stage)) (length sts) (drop (suc (r .at .stage)) sts) (eventOf r) (λ (h : 1 ≤ length (drop (suc (r .at .stage)) sts)). omega (arith, length-drop (suc (r .at .stage)) sts))) (f .stages .1);
+      flow = pop-from how sts 0 sts refl fit (f .bound) r x es os (f .above .0) (sx .1) (omega arith) (omega (arith, f .stages .0)) (f .flow);
+    }
 
 -- TAKING AN EVENT that is at the mark or after
 abbrev pub takeRow : (ℕ → Sum) → Stage → Event → List Row → List Row
@@ -271,12 +292,27 @@ flows-take how st sts m es e x os fit sx l f = go (eqb (word (st .keep') e) 0) r
   where
     far : f .bound .end < endOf (st .size) (e .time)
     far = omega (arith, f .under, end-after (st .size) (e .time) (fit .1))
+
     go : (k : Bool) → eqb (word (st .keep') e) 0 ≡ k → Flows (st ∷ sts) m (e ∷ es) (cond k x (add how (rowOf st 0 e) x)) os
-    go true q = record { bound = f .bound; under = f .under; above = f .above; stages = f .stages;
-                         flow = (f .flow .0, f .flow .1 ∙ ap (λ (z : Bool). cond z (cells st es) (into (st .sum) (endOf (st .size) (e .time)) (word (st .key) e) (word (st .value) e) (cells st es))) (sym q), f .flow .2, f .flow .3) }
-    go false q = record { bound = f .bound; under = f .under; above = each-add (Bef (f .bound)) how (rowOf st 0 e) x (inl far) (f .above); stages = each-add (λ k. k .stage < suc (length sts)) how (rowOf st 0 e) x (omega arith) (f .stages);
-                          flow = (f .flow .0, step-behind how 0 st e (f .flow .0) x (fit .0) (gones-before 0 (endOf (st .size) (e .time)) (f .bound) (f .flow .0) far (f .flow .2)) sx q ∙ ap (laws.step st e) (f .flow .1),
-                                  f .flow .2, flow-same (f .bound) (f .bound) 1 sts (eventsOf (f .flow .0)) x (add how (rowOf st 0 e) x) os (upto-self (f .bound)) (λ j l. add-other how j (rowOf st 0 e) x (λ (z : 0 ≡ j). omega arith)) (f .flow .3)) }
+    go true q = record {
+      bound = f .bound;
+      under = f .under;
+      above = f .above;
+      stages = f .stages;
+      flow = (f .flow .0, f .flow .1 ∙ ap (λ (z : Bool). cond z (cells st es) (into (st .sum) (endOf (st .size) (e .time)) (word (st .key) e) (word (st .value) e) (cells st es))) (sym q), f .flow .2, f .flow .3);
+    }
+    go false q = record {
+      bound = f .bound;
+      under = f .under;
+      above = each-add (Bef (f .bound)) how (rowOf st 0 e) x (inl far) (f .above);
+      stages = each-add (λ k. k .stage < suc (length sts)) how (rowOf st 0 e) x (omega arith) (f .stages);
+      flow = (
+        f .flow .0,
+        step-behind how 0 st e (f .flow .0) x (fit .0) (gones-before 0 (endOf (st .size) (e .time)) (f .bound) (f .flow .0) far (f .flow .2)) sx q ∙ ap (laws.step st e) (f .flow .1),
+        f .flow .2,
+        flow-same (f .bound) (f .bound) 1 sts (eventsOf (f .flow .0)) x (add how (rowOf st 0 e) x) os (upto-self (f .bound)) (λ j l. add-other how j (rowOf st 0 e) x (λ (z : 0 ≡ j). omega arith)) (f .flow .3),
+      );
+    }
 
 -- WHEN NOTHING LEFT HAS ENDED
 ended-gone : (m s : ℕ) (b : Key) (gone cs : List Cell) → b .end ≤ m → Gones s b gone → ended m (gone ++ cs) ≡ gone ++ ended m cs

@@ -18,3 +18,4 @@ mod Parts
 mod Safe
 mod Small
 mod Limits
+mod Laws

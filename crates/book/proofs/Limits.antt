@@ -77,9 +77,11 @@ and-right false b h = absurd h
 
 event-ok : (e : Event) → T (entryOk (Ev e)) → EventFit 0 e
 unfolding entryOk
-event-ok e h =
-    (omega (arith, ltb→lt (e .time) 4611686018427387904 (and-left (small (e .time)) (ltb (e .key) top) (and-left (small (e .time) && ltb (e .key) top) (ltb (e .value) top) h))),
-     ltb→lt (e .key) top (and-right (small (e .time)) (ltb (e .key) top) (and-left (small (e .time) && ltb (e .key) top) (ltb (e .value) top) h)), ltb→lt (e .value) top (and-right (small (e .time) && ltb (e .key) top) (ltb (e .value) top) h))
+event-ok e h = (
+  omega (arith, ltb→lt (e .time) 4611686018427387904 (and-left (small (e .time)) (ltb (e .key) top) (and-left (small (e .time) && ltb (e .key) top) (ltb (e .value) top) h))),
+  ltb→lt (e .key) top (and-right (small (e .time)) (ltb (e .key) top) (and-left (small (e .time) && ltb (e .key) top) (ltb (e .value) top) h)),
+  ltb→lt (e .value) top (and-right (small (e .time) && ltb (e .key) top) (ltb (e .value) top) h),
+)
 
 time-ok : (e : Entry) → T (entryOk e) → timeOf e < 4611686018427387904
 unfolding entryOk timeOf
@@ -260,26 +262,161 @@ taken-total late (x ∷ ls) [] f = omega arith
 taken-total late (x ∷ ls) (t ∷ ts) f = omega (arith, length-append (take (t .taken) (inTime late 0 x)) (takenEvents late ls ts), length-take (t .taken) (inTime late 0 x), in-time-fits late 0 x (f .0) .1, taken-total late ls ts (f .1))
 
 queue-counts : (sts : List Stage) (m : ℕ) (es : List Event) (f : Pages) (q : Queue) (os : List Event) → Sound sts m es f q os → (length (q .front) ≤ length es) × (length (q .buffer) ≤ length es) × (length (q .segments) ≤ length es)
-queue-counts sts m es f q os s =
-    (omega (arith, ap (λ (x : Queue). length (x .front)) (s .is), s .few), omega (arith, ap (λ (x : Queue). length (x .buffer)) (s .is), s .few),
-     omega (arith, ap (λ (x : Queue). length (x .segments)) (s .is), s .few, heads-few Rattle.book.specs.Held.Free (s .held .segs) (s .order .segs), lows-few (howOf sts) (s .held) (s .order) (s .alive)))
+queue-counts sts m es f q os s = (
+  omega (arith, ap (λ (x : Queue). length (x .front)) (s .is), s .few),
+  omega (arith, ap (λ (x : Queue). length (x .buffer)) (s .is), s .few),
+  omega (arith, ap (λ (x : Queue). length (x .segments)) (s .is), s .few, heads-few Rattle.book.specs.Held.Free (s .held .segs) (s .order .segs), lows-few (howOf sts) (s .held) (s .order) (s .alive)),
+)
 
 ledger-fits : (z : Sizes) (p : Plan) (m : ℕ) (ls : List (List Entry)) (x : Book) → SizesSmall z → m ≤ 72057594037927936 → SoundBook z p ls x → Fits z m ls x → AreWords (writeLedger (x .ledger))
-ledger-fits z p m ls x sz h s f =
-    (omega (arith, f .outs, h),
-     words-append (writeList writeTaken (y .logs)) (writeList writeEvent (y .tail) ++ writeQueue (y .queue)) (omega (arith, f .count, logs-long (p .late) (x .log) 0 ls (y .logs) (s .logs)), takens-words (p .late) (x .log) 0 ls (y .logs) m h (f .many) (f .entries) (s .logs))
-       (words-append (writeList writeEvent (y .tail)) (writeQueue (y .queue)) (omega (arith, f .long, most), events-words (y .tail) (f .tail))
-         (omega (arith, f .queue .source, h), (omega (arith, f .queue .next, h),
-           words-append (writeList writeRow (q .front)) (writeList writeRow (q .buffer) ++ writeList writeSeg (q .segments)) (omega (arith, counts .0, e, h), rows-words (q .front) (f .queue .front))
-             (words-append (writeList writeRow (q .buffer)) (writeList writeSeg (q .segments)) (omega (arith, counts .1, e, h), rows-words (q .buffer) (f .queue .buffer)) (omega (arith, counts .2, e, h), segs-words (4 * m + 4) (q .segments) (omega (arith, h)) (f .queue .segments)))))))
+ledger-fits z p m ls x sz h s f = (
+  omega (arith, f .outs, h),
+  words-append (writeList writeTaken (y .logs)) (writeList writeEvent (y .tail) ++ writeQueue (y .queue)) (omega (arith, f .count, logs-long (p .late) (x .log) 0 ls (y .logs) (s .logs)), takens-words (p .late) (x .log) 0 ls (y .logs) m h (f .many) (f .entries) (s .logs))
+      (words-append (writeList writeEvent (y .tail)) (writeQueue (y .queue)) (omega (arith, f .long, most), events-words (y .tail) (f .tail)) (
+        omega (arith, f .queue .source, h),
+        (
+          omega (arith, f .queue .next, h),
+          words-append (writeList writeRow (q .front)) (writeList writeRow (q .buffer) ++ writeList writeSeg (q .segments)) (omega (arith, counts .0, e, h), rows-words (q .front) (f .queue .front))
+              (words-append (writeList writeRow (q .buffer)) (writeList writeSeg (q .segments)) (omega (arith, counts .1, e, h), rows-words (q .buffer) (f .queue .buffer)) (omega (arith, counts .2, e, h), segs-words (4 * m + 4) (q .segments) (omega (arith, h)) (f .queue .segments))),
+        ),
+      )),
+)
   where
     y : Ledger
     y = x .ledger
+
     q : Queue
     q = x .ledger .queue
+
     most : z .emits * m ≤ 128 * 72057594037927936
     most = mul-le-mul (sz .emits) h
+
     e : length (takenEvents (p .late) ls (y .logs)) ≤ 8 * m
     e = omega (arith, taken-total (p .late) ls (y .logs) (f .entries), f .many)
+
     counts : (length (q .front) ≤ length (takenEvents (p .late) ls (y .logs))) × (length (q .buffer) ≤ length (takenEvents (p .late) ls (y .logs))) × (length (q .segments) ≤ length (takenEvents (p .late) ls (y .logs)))
     counts = queue-counts (p .stages) (watermark (p .late) (y .logs)) (takenEvents (p .late) ls (y .logs)) (x .row) q (Rattle.book.specs.Book.cameOut x) (s .queue)
+
+-- A STEP MORE
+fits-later : (z : Sizes) (n : ℕ) (ls : List (List Entry)) (x : Book) → Fits z n ls x → Fits z (suc n) ls x
+fits-later z n ls x f =
+    record {
+      entries = f .entries;
+      count = f .count;
+      many = omega (arith, f .many);
+      queue = queue-up (4 * n + 4) (4 * suc n + 4) (x .ledger .queue) (omega arith) (f .queue);
+      pages = λ k. page-up z (4 * n + 4) (4 * suc n + 4) (x .row k) (omega arith) (f .pages k);
+      outs = omega (arith, f .outs);
+      tail = f .tail;
+      long = omega (arith, f .long, mul-suc (z .emits) n);
+    }
+
+shown-fits : (z : Sizes) (c : ℕ) (g : Pages) (l : Link) → ((k : ℕ) → PageFit z c (g k)) → PageFit z c (pageOf g l)
+shown-fits z c g nil h = tt
+shown-fits z c g (page k) h = h k
+
+-- what a step fills
+record Fills (z : Sizes) (p : Plan) (n : ℕ) (ls : List (List Entry)) (x : Book) (k : Task) : Type 0 where
+  fits : Fits z (suc n) ls (afterTurn (turnOf z p k x) x)
+  rows : WritesFit z (4 * suc n + 4) (turnOf z p k x .rows)
+  outs : (w : OutWrite) → Among w (turnOf z p k x .outs) → EventsFit 8 (w .events) × (length (w .events) ≤ z .outs)
+
+writes-up : (z : Sizes) (c d : ℕ) (ws : List Write) → c ≤ d → WritesFit z c ws → WritesFit z d ws
+writes-up z c d [] h f = tt
+writes-up z c d (w ∷ ws) h f = (page-up z c d (w .content) h (f .0), f .1, writes-up z c d ws h (f .2))
+
+fills : (z : Sizes) (p : Plan) (n : ℕ) (ls : List (List Entry)) (x : Book) (k : Task) → PlanSmall p → Fits z n ls x → Fills z p n ls x k
+unfolding written
+fills z p n ls x Publish ps f =
+    record {
+      fits = record {
+        entries = f .entries;
+        count = f .count;
+        many = omega (arith, f .many);
+        queue = fits-later z n ls x f .queue;
+        pages = fits-later z n ls x f .pages;
+        outs = omega (arith, f .outs);
+        tail = events-drop 8 (z .outs) (x .ledger .tail) (f .tail);
+        long = omega (arith, fits-later z n ls x f .long, length-drop (z .outs) (x .ledger .tail));
+      };
+      rows = tt;
+      outs = one;
+    }
+  where
+    one : (w : OutWrite) → Among w (record { number = x .ledger .pages; events = take (z .outs) (x .ledger .tail) } ∷ []) → EventsFit 8 (w .events) × (length (w .events) ≤ z .outs)
+    one w (inl e) = subst (λ (v : OutWrite). EventsFit 8 (v .events) × (length (v .events) ≤ z .outs)) (sym e) (events-take 8 (z .outs) (x .ledger .tail) (f .tail), omega (arith, length-take (z .outs) (x .ledger .tail)))
+    one w (inr h) = absurd h
+fills z p n ls x (Tidy step) ps f =
+    record {
+      fits = record {
+        entries = f .entries;
+        count = f .count;
+        many = omega (arith, f .many);
+        queue = queue-up (c + 2) (4 * suc n + 4) (d .queue) (omega arith) (s .queue);
+        pages = λ k. page-up z (c + 2) (4 * suc n + 4) (written (d .writes) (x .row) k) (omega arith) (written-fits z (c + 2) (d .writes) (x .row) k (s .writes) (page-up z c (c + 2) (x .row k) (omega arith) (f .pages k)));
+        outs = omega (arith, f .outs);
+        tail = events-append 8 (x .ledger .tail) (d .outs) (f .tail) (s .outs);
+        long = omega (arith, f .long, s .few, length-append (x .ledger .tail) (d .outs), mul-suc (z .emits) n);
+      };
+      rows = writes-up z (c + 2) (4 * suc n + 4) (d .writes) (omega arith) (s .writes);
+      outs = λ w h. absurd h;
+    }
+  where
+    c : ℕ
+    c = 4 * n + 4
+
+    m : ℕ
+    m = watermark (p .late) (x .ledger .logs)
+
+    shown : Page
+    shown = pageOf (x .row) (shows step (x .ledger .queue))
+
+    d : Done
+    d = do' z (p .stages) m step shown (x .ledger .queue)
+
+    s : StepFits z (p .stages) m c step shown (x .ledger .queue)
+    s = step-fits z (p .stages) m c step shown (x .ledger .queue) (ps .stages) (ps .few) (shown-fits z c (x .row) (shows step (x .ledger .queue)) (f .pages)) (f .queue) (writes-few z (p .stages) m step shown (x .ledger .queue)) (step-numbers z (p .stages) m step shown (x .ledger .queue) .1)
+
+once-fits : (late : ℕ) (es : List Entry) (b : LogBox) (t : Taken) → EntriesFit es → HeldOnce late es b → EventsFit 0 (newEvents b t)
+once-fits late es b t f h = events-drop 0 (Rattle.streams.specs.Meaning.lessBy (b .base) (t .taken)) (b .events) (subst (EventsFit 0) (sym (h .holds .events)) (events-drop 0 (b .base) (inTime late 0 (h .seen)) (in-time-fits late 0 (h .seen) (entries-left (h .seen) (h .rest) (subst EntriesFit (h .is) f)) .0)))
+
+pub limits : (z : Sizes) → SizesOk z → SizesSmall z → (p : Plan) → PlanFine p → PlanSmall p → (logs : ℕ) → logs ≤ 256 → Limits z p logs 72057594037927936 (Fits z)
+limits z zo sz p fine ps logs hl =
+    record {
+      starts = starts;
+      later = λ {n} {ls} {x} f. fits-later z n ls x f;
+      batch = batch;
+      take = takes;
+      turn = λ {n} {ls} {x} k h s f w. fills z p n ls x k ps f .fits;
+      ledger-words = λ {n} {ls} {x} k h s f w. ledger-fits z p (suc n) ls (afterTurn (turnOf z p k x) x) sz (omega (arith, h)) (sound-turn z zo p fine ls x k s w) (fills z p n ls x k ps f .fits);
+      page-words = page-words;
+      out-words = out-words;
+      page-short = page-short;
+      out-short = out-short;
+    }
+  where
+    starts : Fits z 0 (empties logs) (emptyBook logs)
+    starts = let e : LogsFit (empties logs) × (total (empties logs) ≡ 0) × (length (empties logs) ≡ logs) = empties-fit logs in record { entries = e .0; count = omega (arith, e .2, hl); many = omega (arith, e .1); queue = record { front = tt; buffer = tt; segments = tt; source = omega arith; next = omega arith }; pages = λ k. tt; outs = omega arith; tail = tt; long = omega arith }
+
+    batch : {n : ℕ} {ls : List (List Entry)} {x : Book} (l floor i c s : ℕ) (es : List Entry) → n < 72057594037927936 → SoundBook z p ls x → Fits z n ls x → l < logs → floor ≤ takenOf l (x .ledger .logs) .taken → Tag n i c s → ((e : Entry) → List·Memᴰ e es → T (entryOk e)) → length es ≤ 8 →
+        length (letGo floor (x .log l) .events) + length es ≤ z .log → Fits z (suc n) (putAll l es ls) (putBatch p l floor i (record { life = c; serial = s }) es x)
+    batch {n} {ls} {x} l floor i c s es h so f hx hf tg ok few room =
+        let e : LogsFit (putAll l es ls) × (total (putAll l es ls) ≤ total ls + length es) × (length (putAll l es ls) ≡ length ls) = puts-fit l es ls (entries-of es ok) (f .entries) in
+        let g : Fits z (suc n) ls x = fits-later z n ls x f in
+        record { entries = e .0; count = omega (arith, e .2, f .count); many = omega (arith, e .1, f .many, few); queue = g .queue; pages = g .pages; outs = g .outs; tail = g .tail; long = g .long }
+
+    takes : {n : ℕ} {ls : List (List Entry)} {x : Book} (l : ℕ) (b : LogBox) → n < 72057594037927936 → SoundBook z p ls x → Fits z n ls x → wanted z (p .late) (x .ledger) ≡ Rest → l < logs → HeldOnce (p .late) (logOf l ls) b → isOld l b (x .ledger) ≡ false → Fits z n ls (takeInto z p l b x)
+    takes {n} {ls} {x} l b h so f w hx o old =
+        record { entries = f .entries; count = f .count; many = f .many; queue = takes-fit z (p .stages) (4 * n + 4) (newEvents b (takenOf l (x .ledger .logs))) (takenOf l (x .ledger .logs) .taken) (x .ledger .queue) (ps .stages) (once-fits (p .late) (logOf l ls) b (takenOf l (x .ledger .logs)) (logs-fit-at l ls (f .entries)) o) (f .queue); pages = f .pages; outs = f .outs; tail = f .tail; long = f .long }
+
+    page-words : {n : ℕ} {ls : List (List Entry)} {x : Book} (k : Task) (w : Write) → n < 72057594037927936 → SoundBook z p ls x → Fits z n ls x → wanted z (p .late) (x .ledger) ≡ Want k → Among w (turnOf z p k x .rows) → AreWords (writePage (w .content)) × Filled (w .content)
+    page-words {n} {ls} {x} k w h so f wt a = let g : PageFit z (4 * suc n + 4) (w .content) × Filled (w .content) = among-fits z (4 * suc n + 4) (turnOf z p k x .rows) w (fills z p n ls x k ps f .rows) a in (page-words′ z (4 * suc n + 4) (w .content) sz (omega (arith, h)) (g .0), g .1)
+
+    out-words : {n : ℕ} {ls : List (List Entry)} {x : Book} (k : Task) (w : OutWrite) → n < 72057594037927936 → SoundBook z p ls x → Fits z n ls x → wanted z (p .late) (x .ledger) ≡ Want k → Among w (turnOf z p k x .outs) → AreWords (writeOut (w .events))
+    out-words {n} {ls} {x} k w h so f wt a = let g : EventsFit 8 (w .events) × (length (w .events) ≤ z .outs) = fills z p n ls x k ps f .outs w a in (omega (arith, g .1, sz .outs), events-words (w .events) (g .0))
+
+    page-short : {n : ℕ} {ls : List (List Entry)} {x : Book} (k : Task) (w : Write) → SoundBook z p ls x → Fits z n ls x → wanted z (p .late) (x .ledger) ≡ Want k → Among w (turnOf z p k x .rows) → 8 * length (writePage (w .content)) ≤ 1048576
+    page-short {n} {ls} {x} k w so f wt a = page-short′ z (4 * suc n + 4) (w .content) sz (among-fits z (4 * suc n + 4) (turnOf z p k x .rows) w (fills z p n ls x k ps f .rows) a .0)
+
+    out-short : {n : ℕ} {ls : List (List Entry)} {x : Book} (k : Task) (w : OutWrite) → SoundBook z p ls x → Fits z n ls x → wanted z (p .late) (x .ledger) ≡ Want k → Among w (turnOf z p k x .outs) → 8 * length (writeOut (w .events)) ≤ 1048576
+    out-short {n} {ls} {x} k w so f wt a = let g : EventsFit 8 (w .events) × (length (w .events) ≤ z .outs) = fills z p n ls x k ps f .outs w a in omega (arith, events-long (w .events), g .1, sz .outs)

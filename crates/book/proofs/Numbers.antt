@@ -49,6 +49,7 @@ emit-by-next sts m more ih (r ∷ rs) q = go (leb (r .at .end) m)
   where
     e : Emitted
     e = goOn (howOf sts) (onward sts r) (popped rs q)
+
     go : (c : Bool) → cond c (then' (e .outs) (more (e .queue))) (record { queue = q; outs = [] }) .queue .next ≡ q .next
     go true = ih (e .queue) ∙ on-next (howOf sts) (onward sts r) (popped rs q)
     go false = refl
@@ -65,6 +66,7 @@ take-next (st ∷ sts) e q = go (eqb (word (st .keep') e) 0)
   where
     r : Row
     r = Rattle.book.specs.Flow.rowOf st 0 e
+
     go : (c : Bool) → cond c q (place (howOf (st ∷ sts)) r q) .next ≡ q .next
     go true = refl
     go false = place-next (howOf (st ∷ sts)) r q
@@ -212,6 +214,7 @@ where-now z p x y (turn {y = v} k f n) j e = go (where-now z p x v f j e)
   where
     m : Moves (v .ledger) (turnOf z p k v)
     m = steps-move z p k (pageOf (v .row) (Rattle.book.specs.Ledger.showsOf k (v .ledger))) (v .ledger)
+
     go : Still x v ⊎ Past z p j x v → Still x y ⊎ Past z p j x y
     go (inl h) =
         let i : Want k ≡ Want j = sym n ∙ ap (wanted z (p .late)) (h .ledger) ∙ e in
@@ -225,18 +228,22 @@ one-content z p x y f j k e g = go (where-now z p x y f j e)
   where
     moves : (b : Book) (i : Task) → Moves (b .ledger) (turnOf z p i b)
     moves b i = steps-move z p i (pageOf (b .row) (Rattle.book.specs.Ledger.showsOf i (b .ledger))) (b .ledger)
+
     go : Still x y ⊎ Past z p j x y → ((w v : Write) → Among w (turnOf z p j x .rows) → Among v (turnOf z p k y .rows) → w .number ≡ v .number → w ≡ v) × ((w v : OutWrite) → Among w (turnOf z p j x .outs) → Among v (turnOf z p k y .outs) → w .number ≡ v .number → w ≡ v)
-    go (inl h) =
-        ((λ w v a b s. one-number (x .ledger .queue .next) (turnOf z p j x .rows) w v (moves x j .rows) a (subst (λ (t : Turn). Among v (t .rows)) same b) s),
-         (λ w v a b s. one-out (x .ledger .pages) (turnOf z p j x .outs) w v (moves x j .outs) a (subst (λ (t : Turn). Among v (t .outs)) same b) s))
+    go (inl h) = (
+      (λ w v a b s. one-number (x .ledger .queue .next) (turnOf z p j x .rows) w v (moves x j .rows) a (subst (λ (t : Turn). Among v (t .rows)) same b) s),
+      (λ w v a b s. one-out (x .ledger .pages) (turnOf z p j x .outs) w v (moves x j .outs) a (subst (λ (t : Turn). Among v (t .outs)) same b) s),
+    )
       where
         i : Want k ≡ Want j
         i = sym g ∙ ap (wanted z (p .late)) (h .ledger) ∙ e
+
         same : turnOf z p k y ≡ turnOf z p j x
         same = let q : k ≡ j = cc in ap (λ (a : Task). turnOf z p a y) q ∙ ap (λ (a : Ledger). does z p j (pageOf (y .row) (Rattle.book.specs.Ledger.showsOf j a)) a) (h .ledger) ∙ ap (λ (a : Pages). does z p j (pageOf a (Rattle.book.specs.Ledger.showsOf j (x .ledger))) (x .ledger)) (h .row)
-    go (inr h) =
-        ((λ w v a b s. absurd (omega (arith, s, h .0, among-numbers (x .ledger .queue .next) (turnOf z p j x .rows) w (moves x j .rows) a .1, among-numbers (y .ledger .queue .next) (turnOf z p k y .rows) v (moves y k .rows) b .0))),
-         (λ w v a b s. absurd (omega (arith, s, h .1, among-outs (x .ledger .pages) (turnOf z p j x .outs) w (moves x j .outs) a .1, among-outs (y .ledger .pages) (turnOf z p k y .outs) v (moves y k .outs) b .0))))
+    go (inr h) = (
+      (λ w v a b s. absurd (omega (arith, s, h .0, among-numbers (x .ledger .queue .next) (turnOf z p j x .rows) w (moves x j .rows) a .1, among-numbers (y .ledger .queue .next) (turnOf z p k y .rows) v (moves y k .rows) b .0))),
+      (λ w v a b s. absurd (omega (arith, s, h .1, among-outs (x .ledger .pages) (turnOf z p j x .outs) w (moves x j .outs) a .1, among-outs (y .ledger .pages) (turnOf z p k y .outs) v (moves y k .outs) b .0))),
+    )
 
 -- WHAT ONLY RISES
 taken-rises : (j l : ℕ) (u : Taken) (ts : List Taken) → takenOf l ts .taken ≤ u .taken → takenOf l ts .latest ≤ u .latest → (takenOf j ts .taken ≤ takenOf j (setAt l u ts) .taken) × (takenOf j ts .latest ≤ takenOf j (setAt l u ts) .latest)
@@ -294,25 +301,34 @@ always-grows z p x y (takes {y = v} l b f n) = go (always-grows z p x v f)
   where
     t : Taken
     t = takenOf l (v .ledger .logs)
+
     k : Took
     k = takeEvents z (p .stages) (newEvents b t) (t .taken) (v .ledger .queue)
+
     up : (j : ℕ) → (takenOf j (v .ledger .logs) .taken ≤ takenOf j (y .ledger .logs) .taken) × (takenOf j (v .ledger .logs) .latest ≤ takenOf j (y .ledger .logs) .latest)
     up j = taken-rises j l (tookTo b t (k .taken)) (v .ledger .logs) (took-more z (p .stages) (newEvents b t) (t .taken) (v .ledger .queue)) (took-latest b t (k .taken))
+
     go : Grows x v → Grows x y
     go g = record { taken = λ j. omega (arith, g .taken j, up j .0); latest = λ j. omega (arith, g .latest j, up j .1); next = omega (arith, g .next, took-next z (p .stages) (newEvents b t) (t .taken) (v .ledger .queue)); pages = g .pages; row = g .row; out = g .out; more = g .more }
 always-grows z p x y (turn {y = v} k f n) = go (always-grows z p x v f)
   where
     m : Moves (v .ledger) (turnOf z p k v)
     m = steps-move z p k (pageOf (v .row) (Rattle.book.specs.Ledger.showsOf k (v .ledger))) (v .ledger)
+
     more : (es : List Event) × (cameOut y ≡ cameOut v ++ es)
     more = turn-out z p k v
+
     go : Grows x v → Grows x y
     go g =
-        record { taken = λ j. subst (λ (ts : List Taken). takenOf j (x .ledger .logs) .taken ≤ takenOf j ts .taken) (sym (turn-logs z p k v)) (g .taken j); latest = λ j. subst (λ (ts : List Taken). takenOf j (x .ledger .logs) .latest ≤ takenOf j ts .latest) (sym (turn-logs z p k v)) (g .latest j);
-                 next = omega (arith, g .next, m .next); pages = omega (arith, g .pages, m .pages);
-                 row = λ i h. written-numbered (v .ledger .queue .next) (turnOf z p k v .rows) (v .row) i (m .rows) (omega (arith, h, g .next)) ∙ g .row i h;
-                 out = λ i h. out-numbered (v .ledger .pages) (turnOf z p k v .outs) (v .out) i (m .outs) (omega (arith, h, g .pages)) ∙ g .out i h;
-                 more = (g .more .0 ++ more .0, more .1 ∙ ap (λ (es : List Event). es ++ more .0) (g .more .1) ∙ append-assoc (cameOut x) (g .more .0) (more .0)) }
+        record {
+          taken = λ j. subst (λ (ts : List Taken). takenOf j (x .ledger .logs) .taken ≤ takenOf j ts .taken) (sym (turn-logs z p k v)) (g .taken j);
+          latest = λ j. subst (λ (ts : List Taken). takenOf j (x .ledger .logs) .latest ≤ takenOf j ts .latest) (sym (turn-logs z p k v)) (g .latest j);
+          next = omega (arith, g .next, m .next);
+          pages = omega (arith, g .pages, m .pages);
+          row = λ i h. written-numbered (v .ledger .queue .next) (turnOf z p k v .rows) (v .row) i (m .rows) (omega (arith, h, g .next)) ∙ g .row i h;
+          out = λ i h. out-numbered (v .ledger .pages) (turnOf z p k v .outs) (v .out) i (m .outs) (omega (arith, h, g .pages)) ∙ g .out i h;
+          more = (g .more .0 ++ more .0, more .1 ∙ ap (λ (es : List Event). es ++ more .0) (g .more .1) ∙ append-assoc (cameOut x) (g .more .0) (more .0));
+        }
 
 -- an old box of a log stays one
 put-longer : (k l : ℕ) (e : Entry) (ls : List (List Entry)) → (more : List Entry) × (logOf l (putIn k e ls) ≡ logOf l ls ++ more)

@@ -68,24 +68,33 @@ page-part g k n pos tail h f l = go (outs-split g t n l)
   where
     t : ℕ
     t = pos / k
+
     q : ℕ
     q = pos % k
+
     at : t * k + q ≡ pos
     at = div-add-mod' pos k
+
     less : q < k
     less = mod-lt pos h
+
     long : length (outsOf g t) ≡ t * k
     long = outs-long g k t (λ i j. f i (omega (arith, j, l)))
+
     page : length (g t) ≡ k
     page = f t l
+
     rest : length (dropOf q (g t)) ≡ k - q
     rest = length-dropOf q (g t) ∙ ap (λ (m : ℕ). m - q) page
+
     go : (more : List Event) × (outsOf g n ≡ outsOf g t ++ (g t ++ more)) → dropOf pos (outsOf g n ++ tail) ≡ dropOf q (g t) ++ dropOf (pos + length (dropOf q (g t))) (outsOf g n ++ tail)
     go (more, e) = ap (dropOf pos) whole ∙ ap (λ (m : ℕ). dropOf m (outsOf g t ++ (g t ++ after))) (omega (arith, at, long)) ∙ drop-past (outsOf g t) (g t ++ after) q ∙ drop-append q (g t) after ∙ ap (λ (xs : List Event). dropOf q (g t) ++ xs) (ap (λ (m : ℕ). dropOf m after) (omega (arith, less, page)) ∙ drop-zero after ∙ sym later)
       where
         after : List Event
         after = more ++ tail
+
         whole : outsOf g n ++ tail ≡ outsOf g t ++ (g t ++ after)
         whole = ap (λ (xs : List Event). xs ++ tail) e ∙ append-assoc (outsOf g t) (g t ++ more) tail ∙ ap (λ (xs : List Event). outsOf g t ++ xs) (append-assoc (g t) more tail)
+
         later : dropOf (pos + length (dropOf q (g t))) (outsOf g n ++ tail) ≡ after
         later = ap (dropOf (pos + length (dropOf q (g t)))) whole ∙ ap (λ (m : ℕ). dropOf m (outsOf g t ++ (g t ++ after))) (omega (arith, at, long, rest, less, page)) ∙ drop-past (outsOf g t) (g t ++ after) (length (g t) + 0) ∙ drop-past (g t) after 0 ∙ drop-zero after

@@ -116,6 +116,7 @@ bytes-bytes (w ∷ ws) = all (w / 72057594037927936) (w / 281474976710656) (w / 
   where
     one : (n : ℕ) → ltb (n % 256) 256 ≡ true
     one n = lt-ltb (n % 256) 256 (omega arith)
+
     all : (a b c d e f g h : ℕ) → allBytes (bytesOf ws) ≡ true → (ltb (a % 256) 256 && (ltb (b % 256) 256 && (ltb (c % 256) 256 && (ltb (d % 256) 256 && (ltb (e % 256) 256 && (ltb (f % 256) 256 && (ltb (g % 256) 256 && (ltb (h % 256) 256 && allBytes (bytesOf ws))))))))) ≡ true
     all a b c d e f g h i = rw (one a, one b, one c, one d, one e, one f, one g, one h) i
 

@@ -96,19 +96,31 @@ module _ (z : Sizes) (zo : SizesOk z) (p : Plan) (fine : PlanFine p) (logs bound
     where
       ledger : (x : List ℕ) → Old f x → Old f′ x
       ledger x a =
-          record { old = a .old; now = now′; reads = a .reads; is = o .is′; taken = λ l. omega (arith, a .taken l, same-taken l, o .taken l); pages = omega (arith, a .pages, same-pages, o .pages);
-                   more = (a .more .0 ++ o .more .0, o .more .1 ∙ ap (λ (es : List Event). es ++ o .more .0) (ap (cameIn f) (sym same) ∙ a .more .1) ∙ append-assoc (cameIn f (a .old)) (a .more .0) (o .more .0) ∙ ap (λ (es : List Event). es ++ (a .more .0 ++ o .more .0)) old-same) }
+          record {
+            old = a .old;
+            now = now′;
+            reads = a .reads;
+            is = o .is′;
+            taken = λ l. omega (arith, a .taken l, same-taken l, o .taken l);
+            pages = omega (arith, a .pages, same-pages, o .pages);
+            more = (a .more .0 ++ o .more .0, o .more .1 ∙ ap (λ (es : List Event). es ++ o .more .0) (ap (cameIn f) (sym same) ∙ a .more .1) ∙ append-assoc (cameIn f (a .old)) (a .more .0) (o .more .0) ∙ ap (λ (es : List Event). es ++ (a .more .0 ++ o .more .0)) old-same);
+          }
         where
           same : a .now ≡ now
           same = just-same (a .now) now (sym (a .is) ∙ o .is)
+
           same-taken : (l : ℕ) → takenOf l (a .now .logs) .taken ≡ takenOf l (now .logs) .taken
           same-taken l = ap (λ (y : Ledger). takenOf l (y .logs) .taken) same
+
           same-pages : a .now .pages ≡ now .pages
           same-pages = ap (λ (y : Ledger). y .pages) same
+
           old-same : cameIn f (a .old) ≡ cameIn f′ (a .old)
           old-same = ap (λ (es : List Event). es ++ a .old .tail) (outs-same (outIn′ f′) (outIn′ f) (a .old .pages) (λ t h. ap (λ (bs : List ℕ). orNone (outIn bs)) (sym (o .outs t (omega (arith, h, a .pages, same-pages))))))
+
       floor : (x : List ℕ) → Floor ls f x → Floor ls′ f′ x
       floor x a y e l = omega (arith, a now (o .is) l, o .taken l, ap (λ (w : Ledger). takenOf l (w .logs) .taken) (just-same now′ y (sym (o .is′) ∙ e)))
+
       spent : (b : ℕ) → Spent (f 0 .bytes) b → Spent (f′ 0 .bytes) b
       spent b (y, e, g) = (now′, o .is′, page-on now now′ b (o .next) (o .pages) (subst (λ (w : Ledger). Page′ w b) (just-same y now (sym e ∙ o .is)) g))
 
@@ -187,7 +199,7 @@ module _ (z : Sizes) (zo : SizesOk z) (p : Plan) (fine : PlanFine p) (logs bound
   unfolding raiseBy
   floor-raise ls f fl x a h y e l =
       subst (λ (m : Maybe Ledger). floorOf l (raiseBy m fl) ≤ takenOf l (y .logs) .taken) (sym (a .reads))
-        (raised-under l (takenOf l (y .logs) .taken) (a .old .logs) fl (subst (λ (w : Ledger). takenOf l (a .old .logs) .taken ≤ takenOf l (w .logs) .taken) (just-same (a .now) y (sym (a .is) ∙ e)) (a .taken l)) (h y e l))
+      (raised-under l (takenOf l (y .logs) .taken) (a .old .logs) fl (subst (λ (w : Ledger). takenOf l (a .old .logs) .taken ≤ takenOf l (w .logs) .taken) (just-same (a .now) y (sym (a .is) ∙ e)) (a .taken l)) (h y e l))
 
   empties-long : (n : ℕ) → length (empties n) ≡ n
   unfolding empties
@@ -294,8 +306,10 @@ module _ (z : Sizes) (zo : SizesOk z) (p : Plan) (fine : PlanFine p) (logs bound
     where
       d : Doing n ls f r x
       d = doing n ls f r x h
+
       c : Called (turnOf z p (d .task) (r .book)) a
       c = called n ls f r x d a m
+
       short : Called (turnOf z p (d .task) (r .book)) a → T (leb (length (a .bytes)) 1048576 && allBytes (a .bytes))
       short (a-row w i e) = subst (λ (y : Filling). T (leb (length (y .bytes)) 1048576 && allBytes (y .bytes))) (sym e) (fits-box (writePage (w .content)) (L .page-short (d .task) w (r .sound) (r .within) (d .want) i))
       short (an-out w i e) = subst (λ (y : Filling). T (leb (length (y .bytes)) 1048576 && allBytes (y .bytes))) (sym e) (fits-box (writeOut (w .events)) (L .out-short (d .task) w (r .sound) (r .within) (d .want) i))
@@ -332,7 +346,7 @@ module _ (z : Sizes) (zo : SizesOk z) (p : Plan) (fine : PlanFine p) (logs bound
       let a : Added old bs l i c s fl es b = added old bs l i c s fl es b (o hl .reads) e in
       let q : servedOf i (batched (p .late) (floorOf l fl) i (record { life = c; serial = s }) es b .served) ≡ record { life = c; serial = s } = mine i c s fl l es b (t .worker) (a .served) in
       ap (λ (m : Maybe LogBox). hasBy m i c s) (a .reads) ∙ and-from (eqb (servedOf i (batched (p .late) (floorOf l fl) i (record { life = c; serial = s }) es b .served) .life) c) (eqb (servedOf i (batched (p .late) (floorOf l fl) i (record { life = c; serial = s }) es b .served) .serial) s)
-        (eq-eqb (servedOf i (batched (p .late) (floorOf l fl) i (record { life = c; serial = s }) es b .served) .life) c (ap (λ (x : Served). x .life) q)) (eq-eqb (servedOf i (batched (p .late) (floorOf l fl) i (record { life = c; serial = s }) es b .served) .serial) s (ap (λ (x : Served). x .serial) q))
+      (eq-eqb (servedOf i (batched (p .late) (floorOf l fl) i (record { life = c; serial = s }) es b .served) .life) c (ap (λ (x : Served). x .life) q)) (eq-eqb (servedOf i (batched (p .late) (floorOf l fl) i (record { life = c; serial = s }) es b .served) .serial) s (ap (λ (x : Served). x .serial) q))
 
   has-mine : (ls : List (List Entry)) (f : ℕ → Box) (n i c s l : ℕ) (fl old bs : List ℕ) (es : List Entry) → n < bound → l < logs → OldLog ls f l old → Tag n i c s → O .adds fl i c s l old es ≡ gives bs → (d t : ℕ) → 1 ≤ t → O .has bs i d t ≡ true → (d ≡ c) × (t ≡ s)
   unfolding hasBy
@@ -367,73 +381,110 @@ module _ (z : Sizes) (zo : SizesOk z) (p : Plan) (fine : PlanFine p) (logs bound
   same-came f f′ y h = ap (λ (es : List Event). es ++ y .tail) (outs-same (outIn′ f) (outIn′ f′) (y .pages) (λ t i. ap (λ (bs : List ℕ). orNone (outIn bs)) (h t i))) ∙ sym (append-nil (cameIn f y))
 
   put-ok : {n : ℕ} {ls : List (List Entry)} {f : ℕ → Box} (i c s l e : ℕ) (fl bs : List ℕ) (es : List Entry) → n < bound → Right n ls f → l < logs → Floor ls f fl → Tag n i c s → ((x : Entry) → List·Memᴰ x es → T (entryOk x)) → length es ≤ 8 → O .adds fl i c s l (f (logBox l) .bytes) es ≡ gives bs →
-    Right (suc n) (putAll l es ls) (at (logBox l) (record { edition = e + 1; bytes = bs }) f) × Stays OldLedger OldLog Floor Spent ls f (putAll l es ls) (at (logBox l) (record { edition = e + 1; bytes = bs }) f)
+      Right (suc n) (putAll l es ls) (at (logBox l) (record { edition = e + 1; bytes = bs }) f) × Stays OldLedger OldLog Floor Spent ls f (putAll l es ls) (at (logBox l) (record { edition = e + 1; bytes = bs }) f)
   put-ok {n} {ls} {f} i c s l e fl bs es hn r hl fo tg ok few ad = (right, stays-on ls (putAll l es ls) f f′ (x .ledger) (x .ledger) on (λ k y o h. let b : OldBox ls k y = o h in record { box = b .box; reads = b .reads; once = old-stays (p .late) l k ls es (b .box) (b .once) }))
     where
       x : Book
       x = r .book
+
       tag : Served
       tag = record { life = c; serial = s }
+
       f′ : ℕ → Box
       f′ = at (logBox l) (record { edition = e + 1; bytes = bs }) f
+
       a : Added (f (logBox l) .bytes) bs l i c s fl es (x .log l)
       a = added (f (logBox l) .bytes) bs l i c s fl es (x .log l) (r .log l hl) ad
+
       floor : floorOf l fl ≤ takenOf l (x .ledger .logs) .taken
       floor = fo (x .ledger) (r .ledger) l
+
       other : (b : ℕ) → (b ≡ logBox l → ⊥) → f′ b ≡ f b
       other b h = at-other (logBox l) b (record { edition = e + 1; bytes = bs }) f h
+
       log : (k : ℕ) → k < logs → logOr (f′ (logBox k) .bytes) ≡ just (setLog l (batched (p .late) (floorOf l fl) i tag es (x .log l)) (x .log) k)
       log k h = go (eqb k l) refl
         where
           go : (t : Bool) → eqb k l ≡ t → logOr (f′ (logBox k) .bytes) ≡ just (cond (eqb k l) (batched (p .late) (floorOf l fl) i tag es (x .log l)) (x .log k))
           go true t = rw t (ap (λ (j : ℕ). logOr (f′ (logBox j) .bytes)) (eqb-true k l t) ∙ ap (λ (y : Box). logOr (y .bytes)) (at-here (logBox l) (record { edition = e + 1; bytes = bs }) f) ∙ a .reads)
           go false t = rw t (ap (λ (y : Box). logOr (y .bytes)) (other (logBox k) (λ (q : logBox k ≡ logBox l). Rattle.std.proofs.shelf.Tests.eqb-false k l t (omega arith))) ∙ r .log k h)
+
       zero-other : f′ 0 ≡ f 0
       zero-other = other 0 (λ (q : 0 ≡ logBox l). omega arith)
+
       row-other : (k : ℕ) → f′ (rowBox k) ≡ f (rowBox k)
       row-other k = other (rowBox k) (λ (q : rowBox k ≡ logBox l). omega arith)
+
       out-other : (t : ℕ) → f′ (outBox t) ≡ f (outBox t)
       out-other t = other (outBox t) (λ (q : outBox t ≡ logBox l). omega arith)
+
       right : Right (suc n) (putAll l es ls) f′
       right =
-          record { book = putBatch p l (floorOf l fl) i tag es x; sound = sound-batch z p ls x l (floorOf l fl) i tag es (r .sound) (omega (arith, hl, r .count)) floor;
-                   within = L .batch l (floorOf l fl) i c s es hn (r .sound) (r .within) hl floor tg ok few (a .room); count = put-count l es ls ∙ r .count;
-                   ledger = ap (λ (y : Box). ledgerOr logs (y .bytes)) zero-other ∙ r .ledger; log = log;
-                   row = λ k h. subst (λ (y : Box). (1 ≤ y .edition) × (pageIn (y .bytes) ≡ just (x .row k))) (sym (row-other k)) (r .row k h); out = λ t h. subst (λ (y : Box). (1 ≤ y .edition) × (outIn (y .bytes) ≡ just (x .out t))) (sym (out-other t)) (r .out t h) }
+          record {
+            book = putBatch p l (floorOf l fl) i tag es x;
+            sound = sound-batch z p ls x l (floorOf l fl) i tag es (r .sound) (omega (arith, hl, r .count)) floor;
+            within = L .batch l (floorOf l fl) i c s es hn (r .sound) (r .within) hl floor tg ok few (a .room);
+            count = put-count l es ls ∙ r .count;
+            ledger = ap (λ (y : Box). ledgerOr logs (y .bytes)) zero-other ∙ r .ledger;
+            log = log;
+            row = λ k h. subst (λ (y : Box). (1 ≤ y .edition) × (pageIn (y .bytes) ≡ just (x .row k))) (sym (row-other k)) (r .row k h);
+            out = λ t h. subst (λ (y : Box). (1 ≤ y .edition) × (outIn (y .bytes) ≡ just (x .out t))) (sym (out-other t)) (r .out t h);
+          }
+
       on : On f f′ (x .ledger) (x .ledger)
       on = record { is = r .ledger; is′ = ap (λ (y : Box). ledgerOr logs (y .bytes)) zero-other ∙ r .ledger; taken = λ k. omega arith; next = omega arith; pages = omega arith; outs = λ t h. ap (λ (y : Box). y .bytes) (out-other t); more = ([], same-came f f′ (x .ledger) (λ t h. ap (λ (y : Box). y .bytes) (out-other t))) }
 
   -- A PAGE
   page-ok : {n : ℕ} {ls : List (List Entry)} {f : ℕ → Box} (x : List ℕ) (a : Filling) → n < bound → Right n ls f → Now f (O .due (f 0 .bytes)) x → List·Memᴰ a (O .pages (f 0 .bytes) x) → f (a .box) .edition ≡ 0 →
-    Right (suc n) ls (at (a .box) (record { edition = 1; bytes = a .bytes }) f) × Stays OldLedger OldLog Floor Spent ls f ls (at (a .box) (record { edition = 1; bytes = a .bytes }) f)
+      Right (suc n) ls (at (a .box) (record { edition = 1; bytes = a .bytes }) f) × Stays OldLedger OldLog Floor Spent ls f ls (at (a .box) (record { edition = 1; bytes = a .bytes }) f)
   page-ok {n} {ls} {f} x a hn r nw m ed = (right, stays-on ls ls f f′ (y .ledger) (y .ledger) on (λ k v o. o))
     where
       y : Book
       y = r .book
+
       d : Doing n ls f r x
       d = doing n ls f r x nw
+
       g : Called (turnOf z p (d .task) y) a
       g = called n ls f r x d a m
+
       f′ : ℕ → Box
       f′ = at (a .box) (record { edition = 1; bytes = a .bytes }) f
+
       other : (b : ℕ) → (b ≡ a .box → ⊥) → f′ b ≡ f b
       other b h = at-other (a .box) b (record { edition = 1; bytes = a .bytes }) f h
+
       is-page : IsPage (a .box)
       is-page = called-page (turnOf z p (d .task) y) a g
+
       new : Page′ (y .ledger) (a .box) → ⊥
       new = called-new (y .ledger) (turnOf z p (d .task) y) a (moves y (d .task)) g
+
       zero-other : f′ 0 ≡ f 0
       zero-other = other 0 (λ (q : 0 ≡ a .box). is-page .0 (sym q))
+
       log-other : (l : ℕ) → f′ (logBox l) ≡ f (logBox l)
       log-other l = other (logBox l) (λ (q : logBox l ≡ a .box). is-page .1 l (sym q))
+
       row-other : (k : ℕ) → k < y .ledger .queue .next → f′ (rowBox k) ≡ f (rowBox k)
       row-other k h = other (rowBox k) (λ (q : rowBox k ≡ a .box). new (inl (k, h, sym q)))
+
       out-other : (t : ℕ) → t < y .ledger .pages → f′ (outBox t) ≡ f (outBox t)
       out-other t h = other (outBox t) (λ (q : outBox t ≡ a .box). new (inr (t, h, sym q)))
+
       right : Right (suc n) ls f′
       right =
-          record { book = y; sound = r .sound; within = L .later (r .within); count = r .count; ledger = ap (λ (b : Box). ledgerOr logs (b .bytes)) zero-other ∙ r .ledger; log = λ l h. ap (λ (b : Box). logOr (b .bytes)) (log-other l) ∙ r .log l h;
-                   row = λ k h. subst (λ (b : Box). (1 ≤ b .edition) × (pageIn (b .bytes) ≡ just (y .row k))) (sym (row-other k h)) (r .row k h); out = λ t h. subst (λ (b : Box). (1 ≤ b .edition) × (outIn (b .bytes) ≡ just (y .out t))) (sym (out-other t h)) (r .out t h) }
+          record {
+            book = y;
+            sound = r .sound;
+            within = L .later (r .within);
+            count = r .count;
+            ledger = ap (λ (b : Box). ledgerOr logs (b .bytes)) zero-other ∙ r .ledger;
+            log = λ l h. ap (λ (b : Box). logOr (b .bytes)) (log-other l) ∙ r .log l h;
+            row = λ k h. subst (λ (b : Box). (1 ≤ b .edition) × (pageIn (b .bytes) ≡ just (y .row k))) (sym (row-other k h)) (r .row k h);
+            out = λ t h. subst (λ (b : Box). (1 ≤ b .edition) × (outIn (b .bytes) ≡ just (y .out t))) (sym (out-other t h)) (r .out t h);
+          }
+
       on : On f f′ (y .ledger) (y .ledger)
       on = record { is = r .ledger; is′ = ap (λ (b : Box). ledgerOr logs (b .bytes)) zero-other ∙ r .ledger; taken = λ k. omega arith; next = omega arith; pages = omega arith; outs = λ t h. ap (λ (b : Box). b .bytes) (out-other t h); more = ([], same-came f f′ (y .ledger) (λ t h. ap (λ (b : Box). b .bytes) (out-other t h))) }
 
@@ -448,40 +499,64 @@ module _ (z : Sizes) (zo : SizesOk z) (p : Plan) (fine : PlanFine p) (logs bound
     out : (t : ℕ) → r .book .ledger .pages ≤ t → t < y .ledger .pages → (1 ≤ f (outBox t) .edition) × (outIn (f (outBox t) .bytes) ≡ just (y .out t))
 
   refilled : (n m : ℕ) (ls : List (List Entry)) (f : ℕ → Box) (r : Right n ls f) (bs : List ℕ) (y : Book) (e : ℕ) → Refill n m ls f r bs y →
-    Right m ls (at 0 (record { edition = e + 1; bytes = bs }) f) × Stays OldLedger OldLog Floor Spent ls f ls (at 0 (record { edition = e + 1; bytes = bs }) f)
+      Right m ls (at 0 (record { edition = e + 1; bytes = bs }) f) × Stays OldLedger OldLog Floor Spent ls f ls (at 0 (record { edition = e + 1; bytes = bs }) f)
   refilled n m ls f r bs y e g = (right, stays-on ls ls f f′ (x .ledger) (y .ledger) on (λ k v o. o))
     where
       x : Book
       x = r .book
+
       f′ : ℕ → Box
       f′ = at 0 (record { edition = e + 1; bytes = bs }) f
+
       other : (b : ℕ) → (b ≡ 0 → ⊥) → f′ b ≡ f b
       other b h = at-other 0 b (record { edition = e + 1; bytes = bs }) f h
+
       here : ledgerOr logs (f′ 0 .bytes) ≡ just (y .ledger)
       here = ap (λ (b : Box). ledgerOr logs (b .bytes)) (at-here 0 (record { edition = e + 1; bytes = bs }) f) ∙ g .reads
+
       row-other : (k : ℕ) → f′ (rowBox k) ≡ f (rowBox k)
       row-other k = other (rowBox k) (λ (q : rowBox k ≡ 0). omega arith)
+
       out-other : (t : ℕ) → f′ (outBox t) ≡ f (outBox t)
       out-other t = other (outBox t) (λ (q : outBox t ≡ 0). omega arith)
+
       row : (k : ℕ) → k < y .ledger .queue .next → (1 ≤ f (rowBox k) .edition) × (pageIn (f (rowBox k) .bytes) ≡ just (y .row k))
       row k h = go (ltb k (x .ledger .queue .next)) refl
         where
           go : (b : Bool) → ltb k (x .ledger .queue .next) ≡ b → (1 ≤ f (rowBox k) .edition) × (pageIn (f (rowBox k) .bytes) ≡ just (y .row k))
           go true t = let i : k < x .ledger .queue .next = Rattle.std.proofs.shelf.Tests.ltb-true k (x .ledger .queue .next) t in (r .row k i .0, r .row k i .1 ∙ ap just (sym (g .grows .row k i)))
           go false t = g .row k (Rattle.std.proofs.shelf.Tests.ltb-false k (x .ledger .queue .next) t) h
+
       out : (t : ℕ) → t < y .ledger .pages → (1 ≤ f (outBox t) .edition) × (outIn (f (outBox t) .bytes) ≡ just (y .out t))
       out t h = go (ltb t (x .ledger .pages)) refl
         where
           go : (b : Bool) → ltb t (x .ledger .pages) ≡ b → (1 ≤ f (outBox t) .edition) × (outIn (f (outBox t) .bytes) ≡ just (y .out t))
           go true u = let i : t < x .ledger .pages = Rattle.std.proofs.shelf.Tests.ltb-true t (x .ledger .pages) u in (r .out t i .0, r .out t i .1 ∙ ap just (sym (g .grows .out t i)))
           go false u = g .out t (Rattle.std.proofs.shelf.Tests.ltb-false t (x .ledger .pages) u) h
+
       right : Right m ls f′
       right =
-          record { book = y; sound = g .sound; within = g .within; count = r .count; ledger = here; log = λ l h. ap (λ (b : Box). logOr (b .bytes)) (other (logBox l) (λ (q : logBox l ≡ 0). omega arith)) ∙ r .log l h ∙ ap just (sym (g .log l));
-                   row = λ k h. subst (λ (b : Box). (1 ≤ b .edition) × (pageIn (b .bytes) ≡ just (y .row k))) (sym (row-other k)) (row k h); out = λ t h. subst (λ (b : Box). (1 ≤ b .edition) × (outIn (b .bytes) ≡ just (y .out t))) (sym (out-other t)) (out t h) }
+          record {
+            book = y;
+            sound = g .sound;
+            within = g .within;
+            count = r .count;
+            ledger = here;
+            log = λ l h. ap (λ (b : Box). logOr (b .bytes)) (other (logBox l) (λ (q : logBox l ≡ 0). omega arith)) ∙ r .log l h ∙ ap just (sym (g .log l));
+            row = λ k h. subst (λ (b : Box). (1 ≤ b .edition) × (pageIn (b .bytes) ≡ just (y .row k))) (sym (row-other k)) (row k h);
+            out = λ t h. subst (λ (b : Box). (1 ≤ b .edition) × (outIn (b .bytes) ≡ just (y .out t))) (sym (out-other t)) (out t h);
+          }
+
       on : On f f′ (x .ledger) (y .ledger)
-      on = record { is = r .ledger; is′ = here; taken = g .grows .taken; next = g .grows .next; pages = g .grows .pages; outs = λ t h. ap (λ (b : Box). b .bytes) (out-other t);
-                    more = (g .grows .more .0, came-is m ls f′ right ∙ g .grows .more .1 ∙ ap (λ (es : List Event). es ++ g .grows .more .0) (sym (came-is n ls f r))) }
+      on = record {
+        is = r .ledger;
+        is′ = here;
+        taken = g .grows .taken;
+        next = g .grows .next;
+        pages = g .grows .pages;
+        outs = λ t h. ap (λ (b : Box). b .bytes) (out-other t);
+        more = (g .grows .more .0, came-is m ls f′ right ∙ g .grows .more .1 ∙ ap (λ (es : List Event). es ++ g .grows .more .0) (sym (came-is n ls f r)));
+      }
 
   same-ok : {n : ℕ} {ls : List (List Entry)} {f : ℕ → Box} (e : ℕ) → Right n ls f → Right n ls (at 0 (record { edition = e + 1; bytes = f 0 .bytes }) f) × Stays OldLedger OldLog Floor Spent ls f ls (at 0 (record { edition = e + 1; bytes = f 0 .bytes }) f)
   same-ok {n} {ls} {f} e r = refilled n n ls f r (f 0 .bytes) (r .book) e (record { sound = r .sound; within = r .within; grows = always-grows z p (r .book) (r .book) itself; reads = r .ledger; log = λ l. refl; row = λ k a b. absurd (omega arith); out = λ t a b. absurd (omega arith) })
@@ -491,49 +566,71 @@ module _ (z : Sizes) (zo : SizesOk z) (p : Plan) (fine : PlanFine p) (logs bound
   not-false b e = not-true b e
 
   take-ok : {n : ℕ} {ls : List (List Entry)} {f : ℕ → Box} (e l : ℕ) (x y : List ℕ) → n < bound → Right n ls f → O .due (f 0 .bytes) ≡ Rattle.book.specs.Interface.nothing → l < logs → OldLog ls f l x → O .take (f 0 .bytes) l x ≡ gives y →
-    Right n ls (at 0 (record { edition = e + 1; bytes = y }) f) × Stays OldLedger OldLog Floor Spent ls f ls (at 0 (record { edition = e + 1; bytes = y }) f)
+      Right n ls (at 0 (record { edition = e + 1; bytes = y }) f) × Stays OldLedger OldLog Floor Spent ls f ls (at 0 (record { edition = e + 1; bytes = y }) f)
   unfolding takeBy
-  take-ok {n} {ls} {f} e l x y hn r du hl ol tk = refilled n n ls f r y (takeInto z p l b v) e (record { sound = sound-take z p ls v l b fine (r .sound) (omega (arith, hl, r .count)) (o .once) new; within = L .take l b hn (r .sound) (r .within) rest hl (o .once) new; grows = gr;
-      reads = ap (ledgerOr logs) (g .2) ∙ ledger-back logs (took z (p .stages) l b (v .ledger)) (g .1); log = λ k. refl; row = λ k i j. absurd (omega (arith, i, j, gr-next)); out = λ t i j. absurd (omega (arith, i, j)) })
+  take-ok {n} {ls} {f} e l x y hn r du hl ol tk = refilled n n ls f r y (takeInto z p l b v) e (record {
+    sound = sound-take z p ls v l b fine (r .sound) (omega (arith, hl, r .count)) (o .once) new;
+    within = L .take l b hn (r .sound) (r .within) rest hl (o .once) new;
+    grows = gr;
+    reads = ap (ledgerOr logs) (g .2) ∙ ledger-back logs (took z (p .stages) l b (v .ledger)) (g .1);
+    log = λ k. refl;
+    row = λ k i j. absurd (omega (arith, i, j, gr-next));
+    out = λ t i j. absurd (omega (arith, i, j));
+  })
     where
       v : Book
       v = r .book
+
       o : OldBox ls l x
       o = ol hl
+
       b : LogBox
       b = o .box
+
       g : (not (isOld l b (v .ledger)) ≡ true) × AreWords (writeLedger (took z (p .stages) l b (v .ledger))) × (y ≡ bytesOf (writeLedger (took z (p .stages) l b (v .ledger))))
       g = given (not (isOld l b (v .ledger))) (writeLedger (took z (p .stages) l b (v .ledger))) y (sym (ap (λ (m : Maybe LogBox). takeBy z p l m (ledgerOr logs (f 0 .bytes))) (o .reads) ∙ ap (takeBy z p l (just b)) (r .ledger)) ∙ tk)
+
       new : isOld l b (v .ledger) ≡ false
       new = not-false (isOld l b (v .ledger)) (g .0)
+
       rest : wanted z (p .late) (v .ledger) ≡ Rest
       rest = calls-none (wanted z (p .late) (v .ledger)) (v .ledger) (sym (due-is (f 0 .bytes) (v .ledger) (r .ledger)) ∙ du)
+
       gr : Grows v (takeInto z p l b v)
       gr = always-grows z p v (takeInto z p l b v) (takes l b itself rest)
+
       gr-next : takeInto z p l b v .ledger .queue .next ≡ v .ledger .queue .next
       gr-next = Rattle.book.proofs.Numbers.took-next z (p .stages) (Rattle.book.specs.Ledger.newEvents b (takenOf l (v .ledger .logs))) (takenOf l (v .ledger .logs) .taken) (v .ledger .queue)
 
   -- A STEP
   step-ok : {n : ℕ} {ls : List (List Entry)} {f : ℕ → Box} (e : ℕ) (x : List ℕ) → n < bound → Right n ls f → Now f (O .due (f 0 .bytes)) x → ((a : Filling) → List·Memᴰ a (O .pages (f 0 .bytes) x) → (1 ≤ f (a .box) .edition) × (f (a .box) .bytes ≡ a .bytes)) →
-    Right (suc n) ls (at 0 (record { edition = e + 1; bytes = O .after (f 0 .bytes) x }) f) × Stays OldLedger OldLog Floor Spent ls f ls (at 0 (record { edition = e + 1; bytes = O .after (f 0 .bytes) x }) f) × ((a : Filling) → List·Memᴰ a (O .pages (f 0 .bytes) x) → Spent (O .after (f 0 .bytes) x) (a .box))
+      Right (suc n) ls (at 0 (record { edition = e + 1; bytes = O .after (f 0 .bytes) x }) f) × Stays OldLedger OldLog Floor Spent ls f ls (at 0 (record { edition = e + 1; bytes = O .after (f 0 .bytes) x }) f) × ((a : Filling) → List·Memᴰ a (O .pages (f 0 .bytes) x) → Spent (O .after (f 0 .bytes) x) (a .box))
   step-ok {n} {ls} {f} e x hn r nw there = (both .0, both .1, λ a m. (y .ledger, reads, spent a (called n ls f r x d a m)))
     where
       v : Book
       v = r .book
+
       d : Doing n ls f r x
       d = doing n ls f r x nw
+
       k : Task
       k = d .task
+
       t : Turn
       t = turnOf z p k v
+
       y : Book
       y = afterTurn t v
+
       mv : Moves (v .ledger) t
       mv = moves v k
+
       reads : ledgerOr logs (O .after (f 0 .bytes) x) ≡ just (y .ledger)
       reads = ap (ledgerOr logs) (after-is (f 0 .bytes) x (v .ledger) (r .ledger) ∙ ap (λ (w : Turn). bytesOf (writeLedger (w .ledger))) (d .is)) ∙ ledger-back logs (t .ledger) (L .ledger-words k hn (r .sound) (r .within) (d .want))
+
       mem : (a : Filling) → Among a (rowFillings (t .rows) ++ outFillings (t .outs)) → List·Memᴰ a (O .pages (f 0 .bytes) x)
       mem a h = among-mem a (O .pages (f 0 .bytes) x) (subst (Among a) (sym (pages-are (f 0 .bytes) x (v .ledger) (r .ledger) ∙ ap (λ (w : Turn). rowFillings (w .rows) ++ outFillings (w .outs)) (d .is))) h)
+
       row : (j : ℕ) → v .ledger .queue .next ≤ j → j < t .ledger .queue .next → (1 ≤ f (rowBox j) .edition) × (pageIn (f (rowBox j) .bytes) ≡ just (written (t .rows) (v .row) j))
       row j a b = go (find-row (v .ledger .queue .next) (t .rows) (v .row) j (mv .rows) a (omega (arith, b, mv .next)))
         where
@@ -542,6 +639,7 @@ module _ (z : Sizes) (zo : SizesOk z) (p : Plan) (fine : PlanFine p) (logs bound
               let h : (1 ≤ f (rowBox (w .number)) .edition) × (f (rowBox (w .number)) .bytes ≡ bytesOf (writePage (w .content))) = there (rowFilling w) (mem (rowFilling w) (filled-row w (t .rows) (outFillings (t .outs)) i)) in
               let u : AreWords (writePage (w .content)) × Filled (w .content) = L .page-words k w hn (r .sound) (r .within) (d .want) i in
               subst (λ (s : ℕ). (1 ≤ f (rowBox s) .edition) × (pageIn (f (rowBox s) .bytes) ≡ just (written (t .rows) (v .row) j))) q (h .0, ap pageIn (h .1) ∙ reads-back .2 .back (w .content) (u .1) (u .0) ∙ ap just (sym c))
+
       out : (j : ℕ) → v .ledger .pages ≤ j → j < t .ledger .pages → (1 ≤ f (outBox j) .edition) × (outIn (f (outBox j) .bytes) ≡ just (outWritten (t .outs) (v .out) j))
       out j a b = go (find-out (v .ledger .pages) (t .outs) (v .out) j (mv .outs) a (omega (arith, b, mv .pages)))
         where
@@ -549,8 +647,10 @@ module _ (z : Sizes) (zo : SizesOk z) (p : Plan) (fine : PlanFine p) (logs bound
           go (w, i, q, c) =
               let h : (1 ≤ f (outBox (w .number)) .edition) × (f (outBox (w .number)) .bytes ≡ bytesOf (writeOut (w .events))) = there (outFilling w) (mem (outFilling w) (filled-out w (t .rows) (t .outs) i)) in
               subst (λ (s : ℕ). (1 ≤ f (outBox s) .edition) × (outIn (f (outBox s) .bytes) ≡ just (outWritten (t .outs) (v .out) j))) q (h .0, ap outIn (h .1) ∙ reads-back .3 .back (w .events) tt (L .out-words k w hn (r .sound) (r .within) (d .want) i) ∙ ap just (sym c))
+
       both : Right (suc n) ls (at 0 (record { edition = e + 1; bytes = O .after (f 0 .bytes) x }) f) × Stays OldLedger OldLog Floor Spent ls f ls (at 0 (record { edition = e + 1; bytes = O .after (f 0 .bytes) x }) f)
       both = refilled n (suc n) ls f r (O .after (f 0 .bytes) x) y e (record { sound = sound-turn z zo p fine ls v k (r .sound) (d .want); within = L .turn k hn (r .sound) (r .within) (d .want); grows = always-grows z p v y (turn k itself (d .want)); reads = reads; log = λ l. refl; row = row; out = out })
+
       spent : (a : Filling) → Called t a → Page′ (t .ledger) (a .box)
       spent a (a-row w i q) = inl (w .number, omega (arith, among-numbers (v .ledger .queue .next) (t .rows) w (mv .rows) i .1, mv .next), ap (λ (s : Filling). s .box) q)
       spent a (an-out w i q) = inr (w .number, omega (arith, among-outs (v .ledger .pages) (t .outs) w (mv .outs) i .1, mv .pages), ap (λ (s : Filling). s .box) q)
@@ -580,12 +680,16 @@ module _ (z : Sizes) (zo : SizesOk z) (p : Plan) (fine : PlanFine p) (logs bound
     where
       pos : ℕ
       pos = from + length had
+
       q : (from + length had < a .old .pages * z .outs) × (b ≡ outBox ((from + length had) / z .outs))
       q = answer-tells from most (a .old) had b (sym (ap (λ (w : Maybe Ledger). answerBy z from most w had) (a .reads)) ∙ e)
+
       new : List Event
       new = dropOf (pos % z .outs) (orNone (outIn y))
+
       same : orNone (outIn y) ≡ outIn′ f (pos / z .outs)
       same = ap (λ (bs : List ℕ). orNone (outIn bs)) (sym (m .1) ∙ ap (λ (c : ℕ). f c .bytes) (q .1))
+
       part : dropOf pos (cameIn f (a .old)) ≡ new ++ dropOf (pos + length new) (cameIn f (a .old))
       part = page-part (outIn′ f) (z .outs) (a .old .pages) pos (a .old .tail) (zo .4) (λ t h. pages-full n ls f r t (omega (arith, h, old-pages n ls f r x a))) (in-page from had (a .old .pages) (q .0)) ∙ ap (λ (es : List Event). dropOf (pos % z .outs) es ++ dropOf (pos + length (dropOf (pos % z .outs) es)) (cameIn f (a .old))) (sym same)
 
@@ -595,8 +699,10 @@ module _ (z : Sizes) (zo : SizesOk z) (p : Plan) (fine : PlanFine p) (logs bound
     where
       pos : ℕ
       pos = from + length got
+
       all : ℕ
       all = x .pages * z .outs
+
       go : (c : Bool) → ltb (length got) most ≡ c → (d : Bool) → ltb pos all ≡ d → cond (c && d) (Rattle.book.specs.Interface.page (outBox (pos / z .outs))) (reply (firstOf most (got ++ dropOf (lessBy all pos) (x .tail)))) ≡ reply es → (es ≡ firstOf most (got ++ dropOf (lessBy all pos) (x .tail))) × ((most ≤ length got) ⊎ (all ≤ pos))
       go true t true u q = absurd (let i : _≡_ {A = ℕ} 0 1 = cc in omega arith)
       go true t false u q = (cc, inr (Rattle.std.proofs.shelf.Tests.ltb-false pos all u))
@@ -604,38 +710,70 @@ module _ (z : Sizes) (zo : SizesOk z) (p : Plan) (fine : PlanFine p) (logs bound
       go false t false u q = (cc, inl (Rattle.std.proofs.shelf.Tests.ltb-false (length got) most t))
 
   answer-ok : {n : ℕ} {ls : List (List Entry)} {f : ℕ → Box} (from most : ℕ) (x : List ℕ) (got es : List Event) → Right n ls f → Old f x → Gathered O (λ b y. Spent (f 0 .bytes) b × (f b .bytes ≡ y)) from most x got → O .answer from most x got ≡ reply es →
-    (j : ℕ) × (j ≤ most) × (es ≡ firstOf j (dropOf from (out p ls)))
+      (j : ℕ) × (j ≤ most) × (es ≡ firstOf j (dropOf from (out p ls)))
   answer-ok {n} {ls} {f} from most x got es r a g e = (length (firstOf most (dropOf from o)), parts .0, given′ ∙ parts .1 ∙ ap (firstOf (length (firstOf most (dropOf from o)))) (sym (drop-append from o more) ∙ ap (dropOf from) (sym whole)))
     where
       o : List Event
       o = cameIn f (a .old)
+
       w : Ledger
       w = a .old
+
       fst : (m : List Event) × (out p ls ≡ cameOut (r .book) ++ m)
       fst = first-of-out z p fine ls (r .book) (r .sound)
+
       more : List Event
       more = a .more .0 ++ fst .0
+
       whole : out p ls ≡ o ++ more
       whole = fst .1 ∙ ap (λ (xs : List Event). xs ++ fst .0) (sym (came-is n ls f r) ∙ ap (cameIn f) (sym (just-same (a .now) (r .book .ledger) (sym (a .is) ∙ r .ledger))) ∙ a .more .1) ∙ append-assoc o (a .more .0) (fst .0)
+
       t : (es ≡ firstOf most (got ++ dropOf (lessBy (w .pages * z .outs) (from + length got)) (w .tail))) × ((most ≤ length got) ⊎ (w .pages * z .outs ≤ from + length got))
       t = reply-tells from most w got es (sym (ap (λ (m : Maybe Ledger). answerBy z from most m got) (a .reads)) ∙ e)
+
       had : dropOf from o ≡ got ++ dropOf (from + length got) o
       had = gathered n ls f r from most x a got g
+
       long : length (outsOf (outIn′ f) (w .pages)) ≡ w .pages * z .outs
       long = outs-long (outIn′ f) (z .outs) (w .pages) (λ i h. pages-full n ls f r i (omega (arith, h, old-pages n ls f r x a)))
+
       tail : w .pages * z .outs ≤ from + length got → dropOf (from + length got) o ≡ dropOf (lessBy (w .pages * z .outs) (from + length got)) (w .tail)
       tail h = ap (λ (m : ℕ). dropOf m o) (omega (arith, h, long, lessBy-is (w .pages * z .outs) (from + length got))) ∙ drop-past (outsOf (outIn′ f) (w .pages)) (w .tail) (lessBy (w .pages * z .outs) (from + length got))
+
       given′ : es ≡ firstOf most (dropOf from o)
       given′ = t .0 ∙ by (t .1)
         where
           by : (most ≤ length got) ⊎ (w .pages * z .outs ≤ from + length got) → firstOf most (got ++ dropOf (lessBy (w .pages * z .outs) (from + length got)) (w .tail)) ≡ firstOf most (dropOf from o)
           by (inl h) = first-append most got (dropOf (lessBy (w .pages * z .outs) (from + length got)) (w .tail)) h ∙ sym (first-append most got (dropOf (from + length got) o) h) ∙ ap (firstOf most) (sym had)
           by (inr h) = ap (λ (xs : List Event). firstOf most (got ++ xs)) (sym (tail h)) ∙ ap (firstOf most) (sym had)
+
       parts : (length (firstOf most (dropOf from o)) ≤ most) × (firstOf most (dropOf from o) ≡ firstOf (length (firstOf most (dropOf from o))) (dropOf from o ++ dropOf (from - length o) more))
       parts = first-of-more most (dropOf from o) (dropOf (from - length o) more)
 
   pub laws : Laws (real z p logs) p logs bound Right OldLedger OldLog Floor Spent
   laws = record {
-      ledger-now = ledger-now; log-now = log-now; floor-none = floor-none; floor-raise = floor-raise; starts = starts; later = later′;
-      due-page = due-page; pages-page = pages-page; answer-page = answer-page; pages-one = pages-one; spent-filled = spent-filled; due-spent = due-spent; pages-new = pages-new; answer-spent = answer-spent; has-none = has-none; has-new = has-new; has-mine = has-mine; has-other = has-other;
-      put-ok = put-ok; page-ok = page-ok; step-ok = step-ok; same-ok = same-ok; take-ok = take-ok; answer-ok = answer-ok }
+    ledger-now = ledger-now;
+    log-now = log-now;
+    floor-none = floor-none;
+    floor-raise = floor-raise;
+    starts = starts;
+    later = later′;
+    due-page = due-page;
+    pages-page = pages-page;
+    answer-page = answer-page;
+    pages-one = pages-one;
+    spent-filled = spent-filled;
+    due-spent = due-spent;
+    pages-new = pages-new;
+    answer-spent = answer-spent;
+    has-none = has-none;
+    has-new = has-new;
+    has-mine = has-mine;
+    has-other = has-other;
+    put-ok = put-ok;
+    page-ok = page-ok;
+    step-ok = step-ok;
+    same-ok = same-ok;
+    take-ok = take-ok;
+    answer-ok = answer-ok;
+  }

@@ -135,10 +135,16 @@ lower-fits how c xs (y ∷ ys) q a b f = record { front = a; buffer = onto-fits 
 pack-fits : (z : Sizes) (c : ℕ) (xs ys us : List Seg) (q : Queue) → SegsFit c xs → SegsFit c ys → SegsFit c us → length ys ≤ z .segments → QueueFit c q → Step′ z (c + 2) (packBy xs ys us q .queue) (packBy xs ys us q .writes)
 unfolding packBy
 pack-fits z c xs [] us q a b d l f = (queue-up c (c + 2) q (omega arith) f, tt)
-pack-fits z c xs (t ∷ ts) us q a b d l f =
-    (record { front = f .front; buffer = f .buffer; segments = segs-append (c + 2) xs (record { low = t .low; index = page (q .next); head = nil; level = suc (t .level) } ∷ us) (segs-up c (c + 2) xs (omega arith) a) ((b .0 .0, omega (arith, f .next), omega arith, omega (arith, b .0 .3)), segs-up c (c + 2) us (omega arith) d);
-              source = omega (arith, f .source); next = omega (arith, f .next) },
-     ((segs-up c (c + 2) (t ∷ ts) (omega arith) b, l), tt, tt))
+pack-fits z c xs (t ∷ ts) us q a b d l f = (
+  record {
+    front = f .front;
+    buffer = f .buffer;
+    segments = segs-append (c + 2) xs (record { low = t .low; index = page (q .next); head = nil; level = suc (t .level) } ∷ us) (segs-up c (c + 2) xs (omega arith) a) ((b .0 .0, omega (arith, f .next), omega arith, omega (arith, b .0 .3)), segs-up c (c + 2) us (omega arith) d);
+    source = omega (arith, f .source);
+    next = omega (arith, f .next);
+  },
+  ((segs-up c (c + 2) (t ∷ ts) (omega arith) b, l), tt, tt),
+)
 
 sift-fits : (how : ℕ → Sum) (z : Sizes) (c : ℕ) (shown : Page) (q : Queue) → PageFit z c shown → QueueFit c q → QueueFit c (siftBy how shown q)
 unfolding siftBy
@@ -280,8 +286,10 @@ emit-by-fits sts m c k more z l ih (r ∷ rs) q h f = go (leb (r .at .end) m)
   where
     o : Onward
     o = onward sts r
+
     g : QueueFit c (popped rs q)
     g = record { front = h .2; buffer = f .buffer; segments = f .segments; source = f .source; next = f .next }
+
     a : QueueFit c (goOn (howOf sts) o (popped rs q) .queue) × EventsFit 8 (goOn (howOf sts) o (popped rs q) .outs) × (length (goOn (howOf sts) o (popped rs q) .outs) ≤ 1)
     a = on-fits (howOf sts) c o (popped rs q) (stage-fits (r .at .stage) refl) g
       where
@@ -291,6 +299,7 @@ emit-by-fits sts m c k more z l ih (r ∷ rs) q h f = go (leb (r .at .end) m)
             go′ : (b : Bool) → leb (suc (r .at .stage)) (length sts) ≡ b → OnFits (onward sts r)
             go′ true t = onward-fits (drop (suc (r .at .stage)) sts) (suc (r .at .stage)) (eventOf r) (stages-drop (suc (r .at .stage)) sts z) (omega (arith, l, length-drop (suc (r .at .stage)) sts, leb-true (suc (r .at .stage)) (length sts) t)) (event-fits r (h .0) (h .1))
             go′ false t = onward-fits (drop (suc (r .at .stage)) sts) (suc (r .at .stage)) (eventOf r) (stages-drop (suc (r .at .stage)) sts z) (omega (arith, h .0 .0, length-drop (suc (r .at .stage)) sts, leb-false (suc (r .at .stage)) (length sts) t)) (event-fits r (h .0) (h .1))
+
     go : (b : Bool) → EmitFits c (suc k) (cond b (then' (goOn (howOf sts) o (popped rs q) .outs) (more (goOn (howOf sts) o (popped rs q) .queue))) (record { queue = q; outs = [] }))
     go true = let b : EmitFits c k (more (goOn (howOf sts) o (popped rs q) .queue)) = ih (goOn (howOf sts) o (popped rs q) .queue) (a .0) in (b .0, events-append 8 (goOn (howOf sts) o (popped rs q) .outs) (more (goOn (howOf sts) o (popped rs q) .queue) .outs) (a .1) (b .1), omega (arith, length-append (goOn (howOf sts) o (popped rs q) .outs) (more (goOn (howOf sts) o (popped rs q) .queue) .outs), a .2, b .2))
     go false = (f, tt, omega arith)

@@ -78,15 +78,27 @@ one-plain : (how : ℕ → Sum) (f : Pages) (n : ℕ) (low : Key) (c : List Page
     length rows + length (chainRows ps) ≤ length moved + length (chainRows c) → 1 ≤ length rows → (Full c → Full ps) →
     Res how f n (plain low c ss) moved (record { segs = record { low = low; index = nil; head = page n; level = 0 } ∷ heads ss; writes = record { number = n; content = RowPage (headOf ps) rows } ∷ [] })
 one-plain how f n low c ss moved rows ps ci si q sr er co u so lf lr le =
-    record { segs = plain low (record { number = n; rows = rows } ∷ ps) ss; is = refl;
-             pages = ((omega arith, written-here w [] f, chain-more f g n (n + 1) a (omega arith) ps ci), segs-more f g n (n + 1) a (omega arith) ss si);
-             same = λ acc. onto-append how (rows ++ chainRows ps) (under ss) acc ∙ onto-append how rows (chainRows ps) (onto how (under ss) acc) ∙ q (onto how (under ss) acc) ∙ ap (onto how moved) (sym (onto-append how (chainRows c) (under ss) acc));
-             ok = ((sr, er, co), u, so); low = λ k p. p; high = λ k p. p; fresh = omega arith; level = refl; few = omega (arith, length-append (rows ++ chainRows ps) (under ss), length-append rows (chainRows ps), length-append (chainRows c) (under ss)); lean = λ l. ((lr, le (l .0)), l .1); live = λ P x y z. z }
+    record {
+      segs = plain low (record { number = n; rows = rows } ∷ ps) ss;
+      is = refl;
+      pages = ((omega arith, written-here w [] f, chain-more f g n (n + 1) a (omega arith) ps ci), segs-more f g n (n + 1) a (omega arith) ss si);
+      same = λ acc. onto-append how (rows ++ chainRows ps) (under ss) acc ∙ onto-append how rows (chainRows ps) (onto how (under ss) acc) ∙ q (onto how (under ss) acc) ∙ ap (onto how moved) (sym (onto-append how (chainRows c) (under ss) acc));
+      ok = ((sr, er, co), u, so);
+      low = λ k p. p;
+      high = λ k p. p;
+      fresh = omega arith;
+      level = refl;
+      few = omega (arith, length-append (rows ++ chainRows ps) (under ss), length-append rows (chainRows ps), length-append (chainRows c) (under ss));
+      lean = λ l. ((lr, le (l .0)), l .1);
+      live = λ P x y z. z;
+    }
   where
     w : Write
     w = record { number = n; content = RowPage (headOf ps) rows }
+
     g : Pages
     g = written (w ∷ []) f
+
     a : (x : ℕ) → x < n → g x ≡ f x
     a x l = written-below n (n + 1) (w ∷ []) f x (omega arith) l
 
@@ -95,17 +107,30 @@ one-packed : (how : ℕ → Sum) (f : Pages) (n : ℕ) (low : Key) (m : ℕ) (in
     length rows + length (chainRows ps) ≤ length moved + length (chainRows c) → 1 ≤ length rows → (Full c → Full ps) →
     Res how f n (packed low m inner c ss) moved (record { segs = record { low = low; index = page m; head = page n; level = suc (levelOf inner) } ∷ heads ss; writes = record { number = n; content = RowPage (headOf ps) rows } ∷ [] })
 one-packed how f n low m inner c ss moved rows ps ci si q sr er co so lf lr le =
-    record { segs = packed low m inner (record { number = n; rows = rows } ∷ ps) ss; is = refl;
-             pages = (omega (arith, si .0), a m (si .0) ∙ si .1, (omega arith, written-here w [] f, chain-more f g n (n + 1) a (omega arith) ps ci), segs-more f g n (n + 1) a (omega arith) inner (si .3), segs-more f g n (n + 1) a (omega arith) ss (si .4));
-             same = λ acc. onto-append how (rows ++ chainRows ps) rest acc ∙ onto-append how rows (chainRows ps) (onto how rest acc) ∙ q (onto how rest acc) ∙ ap (onto how moved) (sym (onto-append how (chainRows c) rest acc));
-             ok = ((sr, er, co), so .1, so .2, so .3, so .4); low = λ k p. p; high = λ k p. p; fresh = omega arith; level = refl; few = omega (arith, length-append (rows ++ chainRows ps) rest, length-append rows (chainRows ps), length-append (chainRows c) rest); lean = λ l. ((lr, le (l .0)), l .1, l .2, l .3); live = λ P x y z. z }
+    record {
+      segs = packed low m inner (record { number = n; rows = rows } ∷ ps) ss;
+      is = refl;
+      pages = (omega (arith, si .0), a m (si .0) ∙ si .1, (omega arith, written-here w [] f, chain-more f g n (n + 1) a (omega arith) ps ci), segs-more f g n (n + 1) a (omega arith) inner (si .3), segs-more f g n (n + 1) a (omega arith) ss (si .4));
+      same = λ acc. onto-append how (rows ++ chainRows ps) rest acc ∙ onto-append how rows (chainRows ps) (onto how rest acc) ∙ q (onto how rest acc) ∙ ap (onto how moved) (sym (onto-append how (chainRows c) rest acc));
+      ok = ((sr, er, co), so .1, so .2, so .3, so .4);
+      low = λ k p. p;
+      high = λ k p. p;
+      fresh = omega arith;
+      level = refl;
+      few = omega (arith, length-append (rows ++ chainRows ps) rest, length-append rows (chainRows ps), length-append (chainRows c) rest);
+      lean = λ l. ((lr, le (l .0)), l .1, l .2, l .3);
+      live = λ P x y z. z;
+    }
   where
     rest : List Row
     rest = under inner ++ under ss
+
     w : Write
     w = record { number = n; content = RowPage (headOf ps) rows }
+
     g : Pages
     g = written (w ∷ []) f
+
     a : (x : ℕ) → x < n → g x ≡ f x
     a x l = written-below n (n + 1) (w ∷ []) f x (omega arith) l
 
@@ -144,38 +169,60 @@ unfolding splitBy
 split-plain how f n low p ss moved xs [] e l si sr er u so =
     one-plain how f n low (p ∷ []) ss moved xs [] tt si (λ acc. ap (λ (z : List Row). onto how z (onto how [] acc)) (sym (append-nil xs) ∙ e) ∙ merged how moved (p .rows) [] acc) (subst Sorted (sym e ∙ append-nil xs) sr) (subst (Each (Within Free low ss)) (sym e ∙ append-nil xs) er) tt u so (omega (arith, ap length e, length-append xs [], length-onto how moved (p .rows), length-append (p .rows) [])) l (λ x. tt)
 split-plain how f n low p ss moved xs (y ∷ ys) e l si sr er u so =
-    record { segs = plain low (record { number = n; rows = xs } ∷ []) (plain (y .at) (record { number = suc n; rows = y ∷ ys } ∷ []) ss); is = refl;
-             pages = ((omega arith, written-here v (w ∷ []) f, tt), ((omega arith, second, tt), segs-more f g n (n + 2) a (omega arith) ss si));
-             same = s; ok = ((sorted-left xs (y ∷ ys) srt, both xs (each-left (Within Free low ss) xs (y ∷ ys) ers) (sorted-mid xs y ys srt), tt), first-before low (y .at) xs l (each-like (Within Free low ss) (Upto low) (λ k h. h .0) xs (each-left (Within Free low ss) xs (y ∷ ys) ers)) (sorted-mid xs y ys srt),
-               ((sorted-right xs (y ∷ ys) srt, over (y ∷ ys) (upto-self (y .at), each-like (Bef (y .at)) (Upto (y .at)) (upto-bef (y .at)) ys (sorted-right xs (y ∷ ys) srt .0)) (each-right (Within Free low ss) xs (y ∷ ys) ers), tt), each-right (Within Free low ss) xs (y ∷ ys) ers .0 .1, so));
-             low = λ k h. h; high = λ k h. h; fresh = omega arith; level = refl; few = omega (arith, fewer, length-append (xs ++ []) (((y ∷ ys) ++ []) ++ under ss), length-append xs [], length-append ((y ∷ ys) ++ []) (under ss), length-append (y ∷ ys) [], length-append (p .rows ++ []) (under ss), length-append (p .rows) []);
-             lean = λ z. ((l, tt), ((omega arith, tt), z .1)); live = λ P b d a. (a .0, (each-right P xs (y ∷ ys) (subst (Each P) (sym e) (each-onto P how moved (p .rows) b (each-left P (p .rows) [] (each-left P (p .rows ++ []) (under ss) d)))) .0, a .1)) }
+    record {
+      segs = plain low (record { number = n; rows = xs } ∷ []) (plain (y .at) (record { number = suc n; rows = y ∷ ys } ∷ []) ss);
+      is = refl;
+      pages = ((omega arith, written-here v (w ∷ []) f, tt), ((omega arith, second, tt), segs-more f g n (n + 2) a (omega arith) ss si));
+      same = s;
+      ok = (
+        (sorted-left xs (y ∷ ys) srt, both xs (each-left (Within Free low ss) xs (y ∷ ys) ers) (sorted-mid xs y ys srt), tt),
+        first-before low (y .at) xs l (each-like (Within Free low ss) (Upto low) (λ k h. h .0) xs (each-left (Within Free low ss) xs (y ∷ ys) ers)) (sorted-mid xs y ys srt),
+        ((sorted-right xs (y ∷ ys) srt, over (y ∷ ys) (upto-self (y .at), each-like (Bef (y .at)) (Upto (y .at)) (upto-bef (y .at)) ys (sorted-right xs (y ∷ ys) srt .0)) (each-right (Within Free low ss) xs (y ∷ ys) ers), tt), each-right (Within Free low ss) xs (y ∷ ys) ers .0 .1, so),
+      );
+      low = λ k h. h;
+      high = λ k h. h;
+      fresh = omega arith;
+      level = refl;
+      few = omega (arith, fewer, length-append (xs ++ []) (((y ∷ ys) ++ []) ++ under ss), length-append xs [], length-append ((y ∷ ys) ++ []) (under ss), length-append (y ∷ ys) [], length-append (p .rows ++ []) (under ss), length-append (p .rows) []);
+      lean = λ z. ((l, tt), ((omega arith, tt), z .1));
+      live = λ P b d a. (a .0, (each-right P xs (y ∷ ys) (subst (Each P) (sym e) (each-onto P how moved (p .rows) b (each-left P (p .rows) [] (each-left P (p .rows ++ []) (under ss) d)))) .0, a .1));
+    }
   where
     v : Write
     v = record { number = n; content = RowPage nil xs }
+
     w : Write
     w = record { number = suc n; content = RowPage nil (y ∷ ys) }
+
     g : Pages
     g = written (v ∷ w ∷ []) f
+
     a : (x : ℕ) → x < n → g x ≡ f x
     a x k = written-below n (n + 2) (v ∷ w ∷ []) f x (omega arith) k
+
     second : g (suc n) ≡ RowPage nil (y ∷ ys)
     second = written-next v w f (λ (q : suc n ≡ n). omega arith)
+
     fewer : length xs + suc (length ys) ≤ length moved + length (p .rows)
     fewer = omega (arith, ap length e, length-append xs (y ∷ ys), length-onto how moved (p .rows))
+
     srt : Sorted (xs ++ (y ∷ ys))
     srt = subst Sorted (sym e) sr
+
     ers : Each (Within Free low ss) (xs ++ (y ∷ ys))
     ers = subst (Each (Within Free low ss)) (sym e) er
+
     both : (zs : List Row) → Each (Within Free low ss) zs → Each (λ k. Bef k (y .at)) zs → Each (λ k. Upto low k × Bef k (y .at)) zs
     both [] h k = tt
     both (z ∷ zs) h k = ((h .0 .0, k .0), both zs (h .1) (k .1))
+
     over : (zs : List Row) → Each (Upto (y .at)) zs → Each (Within Free low ss) zs → Each (Within Free (y .at) ss) zs
     over [] h k = tt
     over (z ∷ zs) h k = ((h .0, k .0 .1), over zs (h .1) (k .1))
+
     s : (acc : List Row) → onto how ((xs ++ []) ++ (((y ∷ ys) ++ []) ++ under ss)) acc ≡ onto how moved (onto how ((p .rows ++ []) ++ under ss) acc)
     s acc = rw (append-nil xs, append-nil (p .rows), append-nil ys)
-      (onto-append how xs ((y ∷ ys) ++ under ss) acc ∙ ap (onto how xs) (onto-append how (y ∷ ys) (under ss) acc) ∙ sym (onto-append how xs (y ∷ ys) (onto how (under ss) acc)) ∙ ap (λ (z : List Row). onto how z (onto how (under ss) acc)) e
+        (onto-append how xs ((y ∷ ys) ++ under ss) acc ∙ ap (onto how xs) (onto-append how (y ∷ ys) (under ss) acc) ∙ sym (onto-append how xs (y ∷ ys) (onto how (under ss) acc)) ∙ ap (λ (z : List Row). onto how z (onto how (under ss) acc)) e
         ∙ onto-onto how moved (p .rows) (onto how (under ss) acc) ∙ ap (onto how moved) (sym (onto-append how (p .rows) (under ss) acc)))
 
 abbrev seg : Key → Link → ℕ → List Paged → Seg
@@ -193,10 +240,13 @@ plain-case how size f n low (p ∷ []) ss moved mm sz i o sm em =
   where
     rows : List Row
     rows = onto how moved (p .rows)
+
     srt : Sorted rows
     srt = sorted-onto how moved (p .rows) (o .0 .0)
+
     each : Each (Within Free low ss) rows
     each = each-onto (Within Free low ss) how moved (p .rows) em (o .0 .1)
+
     go : (b : Bool) → leb (length rows) size ≡ b → Res how f n (plain low (p ∷ []) ss) moved (tail (cond b (onePage n (seg low nil 0 (p ∷ [])) nil rows) (splitBy n (seg low nil 0 (p ∷ [])) (take (length rows / 2) rows) (drop (length rows / 2) rows))) (heads ss))
     go true e = one-plain how f n low (p ∷ []) ss moved rows [] tt (i .1) (merged how moved (p .rows) []) srt each tt (o .1) (o .2) (omega (arith, length-onto how moved (p .rows), length-append (p .rows) [])) (merged-some how moved (p .rows) mm) (λ x. tt)
     go false e = split-plain how f n low p ss moved (take (length rows / 2) rows) (drop (length rows / 2) rows) (take-append-drop (length rows / 2) rows) (omega (arith, leb-false (length rows) size e, length-take (length rows / 2) rows)) (i .1) srt each (o .1) (o .2)
@@ -205,6 +255,7 @@ plain-case how size f n low (p ∷ q ∷ qs) ss moved mm sz i o sm em =
   where
     rows : List Row
     rows = onto how moved (p .rows)
+
     go : (b : Bool) → Res how f n (plain low (p ∷ q ∷ qs) ss) moved (tail (cond b (onePage n (seg low nil 0 (p ∷ q ∷ qs)) (page (q .number)) rows) (onePage n (seg low nil 0 (p ∷ q ∷ qs)) (page (p .number)) moved)) (heads ss))
     go true = one-plain how f n low (p ∷ q ∷ qs) ss moved rows (q ∷ qs) (i .0 .2) (i .1) (merged how moved (p .rows) (chainRows (q ∷ qs))) (sorted-onto how moved (p .rows) (o .0 .0)) (each-onto (Within Free low ss) how moved (p .rows) em (o .0 .1)) (o .0 .2) (o .1) (o .2) (omega (arith, length-onto how moved (p .rows), length-append (p .rows) (chainRows (q ∷ qs)))) (merged-some how moved (p .rows) mm) (λ x. x .1)
     go false = one-plain how f n low (p ∷ q ∷ qs) ss moved moved (p ∷ q ∷ qs) (i .0) (i .1) (λ acc. refl) sm em (o .0) (o .1) (o .2) (omega arith) mm (λ x. x)
@@ -218,11 +269,14 @@ packed-case how size f n low m inner (p ∷ ps) ss moved mm i o sm em =
   where
     it : Seg
     it = seg low (page m) (suc (levelOf inner)) (p ∷ ps)
+
     rows : List Row
     rows = onto how moved (p .rows)
+
     full : (qs : List Paged) → tooFull n it (page m) (headOf qs) rows moved ≡ onePage n it (page (p .number)) moved
     full [] = refl
     full (q ∷ qs) = refl
+
     go : (b : Bool) → Res how f n (packed low m inner (p ∷ ps) ss) moved (tail (cond b (onePage n it (headOf ps) rows) (tooFull n it (page m) (headOf ps) rows moved)) (heads ss))
     go true = one-packed how f n low m inner (p ∷ ps) ss moved rows ps (i .2 .2) i (merged how moved (p .rows) (chainRows ps)) (sorted-onto how moved (p .rows) (o .0 .0)) (each-onto (Within Free low ss) how moved (p .rows) em (o .0 .1)) (o .0 .2) o (omega (arith, length-onto how moved (p .rows), length-append (p .rows) (chainRows ps))) (merged-some how moved (p .rows) mm) (λ x. x .1)
     go false = subst (λ (x : Spilled). Res how f n (packed low m inner (p ∷ ps) ss) moved (tail x (heads ss))) (sym (full ps)) (one-packed how f n low m inner (p ∷ ps) ss moved moved (p ∷ ps) (i .2) i (λ acc. refl) sm em (o .0) o (omega arith) mm (λ x. x))
@@ -247,58 +301,95 @@ spill-res how size f n (suc k) (plain low c ss) moved mm sz i o sm em = up (spil
   where
     sp : Spilled
     sp = spillAt how size n (pageOf f (headAt k (heads ss))) k (heads ss) moved
+
     m : ℕ
     m = n + length (sp .writes)
+
     up : Res how f n ss moved sp → Res how f n (plain low c ss) moved (record { segs = seg low nil 0 c ∷ sp .segs; writes = sp .writes })
     up r =
-        record { segs = plain low c (r .segs); is = ap (λ (x : List Seg). seg low nil 0 c ∷ x) (r .is);
-                 pages = (chain-more f (written (sp .writes) f) n m (λ x l. written-below n m (sp .writes) f x (r .fresh) l) (omega arith) c (i .0), r .pages);
-                 same = λ acc. onto-append how (chainRows c) (under (r .segs)) acc ∙ ap (onto how (chainRows c)) (r .same acc) ∙ onto-both how (chainRows c) moved (onto how (under ss) acc) ∙ ap (onto how moved) (sym (onto-append how (chainRows c) (under ss) acc));
-                 ok = (chain-like (Within Free low ss) (Within Free low (r .segs)) (λ x p. (p .0, r .low x (p .1))) c (o .0), r .low low (o .1), r .ok);
-                 low = λ x h. h; high = λ x h. h; fresh = r .fresh; level = refl; few = omega (arith, r .few, length-append (chainRows c) (under (r .segs)), length-append (chainRows c) (under ss)); lean = λ l. (l .0, r .lean (l .1)); live = λ P x y z. (z .0, r .live P x (each-right P (chainRows c) (under ss) y) (z .1)) }
+        record {
+          segs = plain low c (r .segs);
+          is = ap (λ (x : List Seg). seg low nil 0 c ∷ x) (r .is);
+          pages = (chain-more f (written (sp .writes) f) n m (λ x l. written-below n m (sp .writes) f x (r .fresh) l) (omega arith) c (i .0), r .pages);
+          same = λ acc. onto-append how (chainRows c) (under (r .segs)) acc ∙ ap (onto how (chainRows c)) (r .same acc) ∙ onto-both how (chainRows c) moved (onto how (under ss) acc) ∙ ap (onto how moved) (sym (onto-append how (chainRows c) (under ss) acc));
+          ok = (chain-like (Within Free low ss) (Within Free low (r .segs)) (λ x p. (p .0, r .low x (p .1))) c (o .0), r .low low (o .1), r .ok);
+          low = λ x h. h;
+          high = λ x h. h;
+          fresh = r .fresh;
+          level = refl;
+          few = omega (arith, r .few, length-append (chainRows c) (under (r .segs)), length-append (chainRows c) (under ss));
+          lean = λ l. (l .0, r .lean (l .1));
+          live = λ P x y z. (z .0, r .live P x (each-right P (chainRows c) (under ss) y) (z .1));
+        }
 spill-res how size f n (suc k) (packed low m inner c ss) moved mm sz i o sm em = up (spill-res how size f n k ss moved mm sz (i .4) (o .2) sm em)
   where
     sp : Spilled
     sp = spillAt how size n (pageOf f (headAt k (heads ss))) k (heads ss) moved
+
     t : ℕ
     t = n + length (sp .writes)
+
     up : Res how f n ss moved sp → Res how f n (packed low m inner c ss) moved (record { segs = seg low (page m) (suc (levelOf inner)) c ∷ sp .segs; writes = sp .writes })
     up r =
-        record { segs = packed low m inner c (r .segs); is = ap (λ (x : List Seg). seg low (page m) (suc (levelOf inner)) c ∷ x) (r .is);
-                 pages = (omega (arith, i .0), as-was m (i .0) ∙ i .1, chain-more f (written (sp .writes) f) n t as-was (omega arith) c (i .2), segs-more f (written (sp .writes) f) n t as-was (omega arith) inner (i .3), r .pages);
-                 same = s;
-                 ok = (chain-like (Within Free low ss) (Within Free low (r .segs)) (λ x p. (p .0, r .low x (p .1))) c (o .0), r .low low (o .1), r .ok, o .3, ok-like (Under ss) (Under (r .segs)) (r .low) inner (o .4));
-                 low = λ x h. h; high = λ x h. h; fresh = r .fresh; level = refl;
-                 few = omega (arith, r .few, length-append (chainRows c) (under inner ++ under (r .segs)), length-append (under inner) (under (r .segs)), length-append (chainRows c) (under inner ++ under ss), length-append (under inner) (under ss)); lean = λ l. (l .0, r .lean (l .1), l .2, l .3);
-                 live = λ P x y z. (z .0, r .live P x (each-right P (under inner) (under ss) (each-right P (chainRows c) (under inner ++ under ss) y)) (z .1)) }
+        record {
+          segs = packed low m inner c (r .segs);
+          is = ap (λ (x : List Seg). seg low (page m) (suc (levelOf inner)) c ∷ x) (r .is);
+          pages = (omega (arith, i .0), as-was m (i .0) ∙ i .1, chain-more f (written (sp .writes) f) n t as-was (omega arith) c (i .2), segs-more f (written (sp .writes) f) n t as-was (omega arith) inner (i .3), r .pages);
+          same = s;
+          ok = (chain-like (Within Free low ss) (Within Free low (r .segs)) (λ x p. (p .0, r .low x (p .1))) c (o .0), r .low low (o .1), r .ok, o .3, ok-like (Under ss) (Under (r .segs)) (r .low) inner (o .4));
+          low = λ x h. h;
+          high = λ x h. h;
+          fresh = r .fresh;
+          level = refl;
+          few = omega (arith, r .few, length-append (chainRows c) (under inner ++ under (r .segs)), length-append (under inner) (under (r .segs)), length-append (chainRows c) (under inner ++ under ss), length-append (under inner) (under ss));
+          lean = λ l. (l .0, r .lean (l .1), l .2, l .3);
+          live = λ P x y z. (z .0, r .live P x (each-right P (under inner) (under ss) (each-right P (chainRows c) (under inner ++ under ss) y)) (z .1));
+        }
       where
         as-was : (x : ℕ) → x < n → written (sp .writes) f x ≡ f x
         as-was x l = written-below n t (sp .writes) f x (r .fresh) l
+
         s : (acc : List Row) → onto how (chainRows c ++ (under inner ++ under (r .segs))) acc ≡ onto how moved (onto how (chainRows c ++ (under inner ++ under ss)) acc)
         s acc = onto-append how (chainRows c) (under inner ++ under (r .segs)) acc ∙ ap (onto how (chainRows c)) (onto-append how (under inner) (under (r .segs)) acc ∙ ap (onto how (under inner)) (r .same acc) ∙ onto-both how (under inner) moved (onto how (under ss) acc) ∙ ap (onto how moved) (sym (onto-append how (under inner) (under ss) acc)))
-          ∙ onto-both how (chainRows c) moved (onto how (under inner ++ under ss) acc) ∙ ap (onto how moved) (sym (onto-append how (chainRows c) (under inner ++ under ss) acc))
+            ∙ onto-both how (chainRows c) moved (onto how (under inner ++ under ss) acc) ∙ ap (onto how moved) (sym (onto-append how (chainRows c) (under inner ++ under ss) acc))
 
 pub spill-keeps : (how : ℕ → Sum) (size : ℕ) (f : Pages) (i : ℕ) (h : Held) → 1 ≤ length (pick size (isOf i (heads (h .segs))) (h .buffer)) → 1 ≤ size → HeldIn f h → Order h → Kept how f h (spill how size i (pageOf f (headAt i (heads (h .segs)))) (queueOf h)) (h .source) (Under (h .segs)) (levelOf (h .segs))
 spill-keeps how size f i h mm sz hh o = done (spill-res how size f (h .next) i (h .segs) moved mm sz (hh .0) (o .segs) (sorted-pick size (isOf i (heads (h .segs))) (h .buffer) (o .buffer)) (each-like (λ k. isOf i (heads (h .segs)) k ≡ true) (Goes i (h .segs)) (goes-of i (h .segs)) moved (picked size (isOf i (heads (h .segs))) (h .buffer))))
   where
     moved : List Row
     moved = pick size (isOf i (heads (h .segs))) (h .buffer)
+
     rest : List Row
     rest = left size (isOf i (heads (h .segs))) (h .buffer)
+
     sp : Spilled
     sp = spillAt how size (h .next) (pageOf f (headAt i (heads (h .segs)))) i (heads (h .segs)) moved
+
     to : ℕ
     to = h .next + length (sp .writes)
+
     done : Res how f (h .next) (h .segs) moved sp → Kept how f h (spill how size i (pageOf f (headAt i (heads (h .segs)))) (queueOf h)) (h .source) (Under (h .segs)) (levelOf (h .segs))
     done r =
-        record { held = record { front = h .front; buffer = rest; segs = r .segs; source = h .source; next = to };
-                 is = ap (λ (x : List Seg). record { front = h .front; buffer = rest; segments = x; source = headOf (h .source); next = to }) (r .is);
-                 pages = (r .pages, chain-more f (written (sp .writes) f) (h .next) to (λ x l. written-below (h .next) to (sp .writes) f x (r .fresh) l) (omega arith) (h .source) (hh .1));
-                 same = ap (onto how (h .front)) (ap (onto how rest) (r .same src) ∙ onto-both how rest moved (onto how (under (h .segs)) src) ∙ onto-pick how size (isOf i (heads (h .segs))) (h .buffer) (onto how (under (h .segs)) src));
-                 order = record { front = o .front; buffer = sorted-kept size (isOf i (heads (h .segs))) (h .buffer) (o .buffer); below = each-like (Under (h .segs)) (Under (r .segs)) (r .low) (h .front) (o .below);
-                                  above = each-like (Over (h .segs)) (Over (r .segs)) (r .high) rest (each-kept (Over (h .segs)) size (isOf i (heads (h .segs))) (h .buffer) (o .above)); segs = r .ok };
-                 fresh = r .fresh; lean = λ l. record { segs = r .lean (l .segs); source = l .source }; few = omega (arith, r .few, length-pick size (isOf i (heads (h .segs))) (h .buffer)); source = refl; low = r .low; level = omega (arith, r .level);
-                 live = λ P d a. let u : Each P (onto how (h .buffer) (onto how (under (h .segs)) src)) = each-onto-inv P how (h .front) (onto how (h .buffer) (onto how (under (h .segs)) src)) d .1 in let v : Each P (h .buffer) × Each P (onto how (under (h .segs)) src) = each-onto-inv P how (h .buffer) (onto how (under (h .segs)) src) u in r .live P (each-pick P size (isOf i (heads (h .segs))) (h .buffer) (v .0)) (each-onto-inv P how (under (h .segs)) src (v .1) .0) a }
+        record {
+          held = record { front = h .front; buffer = rest; segs = r .segs; source = h .source; next = to };
+          is = ap (λ (x : List Seg). record { front = h .front; buffer = rest; segments = x; source = headOf (h .source); next = to }) (r .is);
+          pages = (r .pages, chain-more f (written (sp .writes) f) (h .next) to (λ x l. written-below (h .next) to (sp .writes) f x (r .fresh) l) (omega arith) (h .source) (hh .1));
+          same = ap (onto how (h .front)) (ap (onto how rest) (r .same src) ∙ onto-both how rest moved (onto how (under (h .segs)) src) ∙ onto-pick how size (isOf i (heads (h .segs))) (h .buffer) (onto how (under (h .segs)) src));
+          order = record {
+            front = o .front;
+            buffer = sorted-kept size (isOf i (heads (h .segs))) (h .buffer) (o .buffer);
+            below = each-like (Under (h .segs)) (Under (r .segs)) (r .low) (h .front) (o .below);
+            above = each-like (Over (h .segs)) (Over (r .segs)) (r .high) rest (each-kept (Over (h .segs)) size (isOf i (heads (h .segs))) (h .buffer) (o .above));
+            segs = r .ok;
+          };
+          fresh = r .fresh;
+          lean = λ l. record { segs = r .lean (l .segs); source = l .source };
+          few = omega (arith, r .few, length-pick size (isOf i (heads (h .segs))) (h .buffer));
+          source = refl;
+          low = r .low;
+          level = omega (arith, r .level);
+          live = λ P d a. let u : Each P (onto how (h .buffer) (onto how (under (h .segs)) src)) = each-onto-inv P how (h .front) (onto how (h .buffer) (onto how (under (h .segs)) src)) d .1 in let v : Each P (h .buffer) × Each P (onto how (under (h .segs)) src) = each-onto-inv P how (h .buffer) (onto how (under (h .segs)) src) u in r .live P (each-pick P size (isOf i (heads (h .segs))) (h .buffer) (v .0)) (each-onto-inv P how (under (h .segs)) src (v .1) .0) a;
+        }
       where
         src : List Row
         src = onto how (chainRows (h .source)) []

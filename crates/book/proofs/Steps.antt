@@ -65,6 +65,7 @@ place-contents how r h = go (isUp (heads (h .segs)) (r .at))
   where
     rest : List Row
     rest = onto how (under (h .segs)) (onto how (chainRows (h .source)) [])
+
     go : (b : Bool) → contents how (putTo how b r h) ≡ add how r (contents how h)
     go true = ap (onto how (h .front)) (onto-added how r (h .buffer) (onto how (under (h .segs)) (onto how (chainRows (h .source)) []))) ∙ onto-add how (h .front) r (onto how (h .buffer) (onto how (under (h .segs)) (onto how (chainRows (h .source)) [])))
     go false = onto-added how r (h .front) (onto how (h .buffer) (onto how (under (h .segs)) (onto how (chainRows (h .source)) [])))
@@ -171,26 +172,46 @@ lower-by : (how : ℕ → Sum) (f : Pages) (h : Held) (xs ys : List Row) → xs 
 unfolding lowerBy written
 lower-by how f h xs [] e i o = record { held = h; is = refl; pages = i; same = refl; order = o; fresh = omega arith; lean = λ l. l; few = omega arith; source = refl; low = λ k u. u; level = omega arith; live = λ P c a. a }
 lower-by how f h xs (y ∷ ys) e i o =
-    record { held = g; is = refl; pages = ((tt, i .0), i .1); same = s; order = p; fresh = omega arith; lean = λ l. record { segs = (tt, l .segs); source = l .source };
-             few = omega (arith, length-onto how (y ∷ ys) (h .buffer), ap length e, length-append xs (y ∷ ys)); source = refl; low = λ k u. u; level = omega arith;
-             live = λ P c a. (each-right P xs (y ∷ ys) (subst (Each P) (sym e) (each-onto-inv P how (h .front) (onto how (h .buffer) (onto how (under (h .segs)) (onto how (chainRows (h .source)) []))) c .0)) .0, a) }
+    record {
+      held = g;
+      is = refl;
+      pages = ((tt, i .0), i .1);
+      same = s;
+      order = p;
+      fresh = omega arith;
+      lean = λ l. record { segs = (tt, l .segs); source = l .source };
+      few = omega (arith, length-onto how (y ∷ ys) (h .buffer), ap length e, length-append xs (y ∷ ys));
+      source = refl;
+      low = λ k u. u;
+      level = omega arith;
+      live = λ P c a. (each-right P xs (y ∷ ys) (subst (Each P) (sym e) (each-onto-inv P how (h .front) (onto how (h .buffer) (onto how (under (h .segs)) (onto how (chainRows (h .source)) []))) c .0)) .0, a);
+    }
   where
     g : Held
     g = record { front = xs; buffer = onto how (y ∷ ys) (h .buffer); segs = plain (y .at) [] (h .segs); source = h .source; next = h .next }
+
     srt : Sorted (xs ++ (y ∷ ys))
     srt = subst Sorted (sym e) (o .front)
+
     bel : Each (Under (h .segs)) (xs ++ (y ∷ ys))
     bel = subst (Each (Under (h .segs))) (sym e) (o .below)
+
     s : contents how g ≡ contents how h
     s = ap (onto how xs) (onto-onto how (y ∷ ys) (h .buffer) (onto how (under (h .segs)) (onto how (chainRows (h .source)) [])))
-      ∙ sym (onto-append how xs (y ∷ ys) (onto how (h .buffer) (onto how (under (h .segs)) (onto how (chainRows (h .source)) []))))
-      ∙ ap (λ (zs : List Row). onto how zs (onto how (h .buffer) (onto how (under (h .segs)) (onto how (chainRows (h .source)) [])))) e
+        ∙ sym (onto-append how xs (y ∷ ys) (onto how (h .buffer) (onto how (under (h .segs)) (onto how (chainRows (h .source)) []))))
+        ∙ ap (λ (zs : List Row). onto how zs (onto how (h .buffer) (onto how (under (h .segs)) (onto how (chainRows (h .source)) [])))) e
+
     low : Under (h .segs) (y .at)
     low = each-right (Under (h .segs)) xs (y ∷ ys) bel .0
+
     p : Order g
-    p = record { front = sorted-left xs (y ∷ ys) srt; buffer = sorted-onto how (y ∷ ys) (h .buffer) (o .buffer); below = sorted-mid xs y ys srt;
-                 above = each-onto (Upto (y .at)) how (y ∷ ys) (h .buffer) (upto-self (y .at), each-like (Bef (y .at)) (Upto (y .at)) (λ k. upto-bef (y .at) k) ys (sorted-right xs (y ∷ ys) srt .0)) (each-like (Over (h .segs)) (Upto (y .at)) (λ k. over-lower (h .segs) (y .at) k low) (h .buffer) (o .above));
-                 segs = (tt, low, o .segs) }
+    p = record {
+      front = sorted-left xs (y ∷ ys) srt;
+      buffer = sorted-onto how (y ∷ ys) (h .buffer) (o .buffer);
+      below = sorted-mid xs y ys srt;
+      above = each-onto (Upto (y .at)) how (y ∷ ys) (h .buffer) (upto-self (y .at), each-like (Bef (y .at)) (Upto (y .at)) (λ k. upto-bef (y .at) k) ys (sorted-right xs (y ∷ ys) srt .0)) (each-like (Over (h .segs)) (Upto (y .at)) (λ k. over-lower (h .segs) (y .at) k low) (h .buffer) (o .above));
+      segs = (tt, low, o .segs);
+    }
 
 pub lower-keeps : (how : ℕ → Sum) (f : Pages) (n : ℕ) (h : Held) → HeldIn f h → Order h → Kept how f h (lower how n (queueOf h)) (h .source) (belowOf (drop n (h .front)) h) (levelOf (h .segs))
 lower-keeps how f n h i o = lower-by how f h (take n (h .front)) (drop n (h .front)) (take-append-drop n (h .front)) i o
@@ -199,54 +220,82 @@ lower-keeps how f n h i o = lower-by how f h (take n (h .front)) (drop n (h .fro
 pub sift-keeps : (how : ℕ → Sum) (f : Pages) (h : Held) (p : Paged) (ps : List Paged) → h .source ≡ p ∷ ps → HeldIn f h → Order h → Kept how f h (sift how (f (p .number)) (queueOf h)) ps (Under (h .segs)) (levelOf (h .segs))
 unfolding siftBy written
 sift-keeps how f h p ps e i o =
-    record { held = placesH how (p .rows) g; is = ap (λ (s : Page). siftBy how s (queueOf h)) (c .1) ∙ places-is how (p .rows) g; pages = places-in how f (p .rows) g (i .0, c .2);
-             same = places-contents how (p .rows) g ∙ s; order = places-order how (p .rows) g (record { front = o .front; buffer = o .buffer; below = o .below; above = o .above; segs = o .segs });
-             fresh = omega (arith, places-next how (p .rows) g); lean = λ l. places-lean how (p .rows) g (l .segs) (subst Full e (l .source) .1);
-             few = omega (arith, places-few how (p .rows) g, ap (λ (x : List Paged). length (chainRows x)) e, length-append (p .rows) (chainRows ps)); source = places-source how (p .rows) g; low = λ k u. subst (λ (x : Segs). Under x k) (sym (places-segs how (p .rows) g)) u;
-             level = omega (arith, ap levelOf (places-segs how (p .rows) g)); live = λ P d a. subst (Alive P) (sym (places-segs how (p .rows) g)) a }
+    record {
+      held = placesH how (p .rows) g;
+      is = ap (λ (s : Page). siftBy how s (queueOf h)) (c .1) ∙ places-is how (p .rows) g;
+      pages = places-in how f (p .rows) g (i .0, c .2);
+      same = places-contents how (p .rows) g ∙ s;
+      order = places-order how (p .rows) g (record { front = o .front; buffer = o .buffer; below = o .below; above = o .above; segs = o .segs });
+      fresh = omega (arith, places-next how (p .rows) g);
+      lean = λ l. places-lean how (p .rows) g (l .segs) (subst Full e (l .source) .1);
+      few = omega (arith, places-few how (p .rows) g, ap (λ (x : List Paged). length (chainRows x)) e, length-append (p .rows) (chainRows ps));
+      source = places-source how (p .rows) g;
+      low = λ k u. subst (λ (x : Segs). Under x k) (sym (places-segs how (p .rows) g)) u;
+      level = omega (arith, ap levelOf (places-segs how (p .rows) g));
+      live = λ P d a. subst (Alive P) (sym (places-segs how (p .rows) g)) a;
+    }
   where
     g : Held
     g = record { front = h .front; buffer = h .buffer; segs = h .segs; source = ps; next = h .next }
+
     c : ChainIn f (h .next) (p ∷ ps)
     c = subst (ChainIn f (h .next)) e (i .1)
+
     s : onto how (p .rows) (contents how g) ≡ contents how h
     s = onto-both how (p .rows) (h .front) (onto how (h .buffer) (onto how (under (h .segs)) (onto how (chainRows ps) [])))
-      ∙ ap (onto how (h .front)) (onto-both how (p .rows) (h .buffer) (onto how (under (h .segs)) (onto how (chainRows ps) []))
-      ∙ ap (onto how (h .buffer)) (onto-both how (p .rows) (under (h .segs)) (onto how (chainRows ps) [])
-      ∙ ap (onto how (under (h .segs))) (sym (onto-append how (p .rows) (chainRows ps) []) ∙ ap (λ (x : List Paged). onto how (chainRows x) []) (sym e))))
+        ∙ ap (onto how (h .front)) (onto-both how (p .rows) (h .buffer) (onto how (under (h .segs)) (onto how (chainRows ps) []))
+        ∙ ap (onto how (h .buffer)) (onto-both how (p .rows) (under (h .segs)) (onto how (chainRows ps) [])
+        ∙ ap (onto how (under (h .segs))) (sym (onto-append how (p .rows) (chainRows ps) []) ∙ ap (λ (x : List Paged). onto how (chainRows x) []) (sym e))))
 
 -- OPEN. With nothing in the source
 pub open-keeps : (how : ℕ → Sum) (f : Pages) (h : Held) (low : Key) (c : List Paged) (ss : Segs) → h .segs ≡ plain low c ss → h .source ≡ [] → HeldIn f h → Order h → Kept how f h (open' how (queueOf h)) c (Under ss) (levelOf ss)
 unfolding openBy written
 open-keeps how f h low c ss e n i o =
-    record { held = placesH how (h .buffer) g; is = ap (λ (x : Segs). openBy how (heads x) (queueOf h)) e ∙ places-is how (h .buffer) g; pages = places-in how f (h .buffer) g (j .1, j .0);
-             same = places-contents how (h .buffer) g ∙ s; order = places-order how (h .buffer) g p;
-             fresh = omega (arith, places-next how (h .buffer) g); lean = λ l. places-lean how (h .buffer) g (subst LeanSegs e (l .segs) .1) (subst LeanSegs e (l .segs) .0);
-             few = omega (arith, places-few how (h .buffer) g, ap (λ (x : Segs). length (under x)) e, length-append (chainRows c) (under ss)); source = places-source how (h .buffer) g; low = λ k u. subst (λ (x : Segs). Under x k) (sym (places-segs how (h .buffer) g)) u;
-             level = omega (arith, ap levelOf (places-segs how (h .buffer) g)); live = λ P d a. subst (Alive P) (sym (places-segs how (h .buffer) g)) (subst (Alive P) e a .1) }
+    record {
+      held = placesH how (h .buffer) g;
+      is = ap (λ (x : Segs). openBy how (heads x) (queueOf h)) e ∙ places-is how (h .buffer) g;
+      pages = places-in how f (h .buffer) g (j .1, j .0);
+      same = places-contents how (h .buffer) g ∙ s;
+      order = places-order how (h .buffer) g p;
+      fresh = omega (arith, places-next how (h .buffer) g);
+      lean = λ l. places-lean how (h .buffer) g (subst LeanSegs e (l .segs) .1) (subst LeanSegs e (l .segs) .0);
+      few = omega (arith, places-few how (h .buffer) g, ap (λ (x : Segs). length (under x)) e, length-append (chainRows c) (under ss));
+      source = places-source how (h .buffer) g;
+      low = λ k u. subst (λ (x : Segs). Under x k) (sym (places-segs how (h .buffer) g)) u;
+      level = omega (arith, ap levelOf (places-segs how (h .buffer) g));
+      live = λ P d a. subst (Alive P) (sym (places-segs how (h .buffer) g)) (subst (Alive P) e a .1);
+    }
   where
     g : Held
     g = record { front = h .front; buffer = []; segs = ss; source = c; next = h .next }
+
     j : SegsIn f (h .next) (plain low c ss)
     j = subst (SegsIn f (h .next)) e (i .0)
+
     k : SegsOk Free (plain low c ss)
     k = subst (SegsOk Free) e (o .segs)
+
     b : Each (λ x. Bef x low) (h .front)
     b = subst (λ (x : Segs). Each (Under x) (h .front)) e (o .below)
+
     lift : (xs : Segs) → Under xs low → (x : Key) → Bef x low → Under xs x
     lift none u x v = tt
     lift (plain a d ts) u x v = bef-trans x low a v u
     lift (packed a m q d ts) u x v = bef-trans x low a v u
+
     p : Order g
     p = record { front = o .front; buffer = tt; below = each-like (λ x. Bef x low) (Under ss) (lift ss (k .1)) (h .front) b; above = tt; segs = k .2 }
+
     s : onto how (h .buffer) (contents how g) ≡ contents how h
     s = onto-both how (h .buffer) (h .front) (onto how [] (onto how (under ss) (onto how (chainRows c) [])))
-      ∙ ap (onto how (h .front)) (ap (onto how (h .buffer)) (none-first ∙ onto-both how (under ss) (chainRows c) [] ∙ sym (onto-append how (chainRows c) (under ss) []) ∙ at ∙ none-last))
+        ∙ ap (onto how (h .front)) (ap (onto how (h .buffer)) (none-first ∙ onto-both how (under ss) (chainRows c) [] ∙ sym (onto-append how (chainRows c) (under ss) []) ∙ at ∙ none-last))
       where
         none-first : onto how [] (onto how (under ss) (onto how (chainRows c) [])) ≡ onto how (under ss) (onto how (chainRows c) [])
         none-first = onto-none how (onto how (under ss) (onto how (chainRows c) []))
+
         at : onto how (chainRows c ++ under ss) [] ≡ onto how (under (h .segs)) []
         at = ap (λ (x : Segs). onto how (under x) []) (sym e)
+
         none-last : onto how (under (h .segs)) [] ≡ onto how (under (h .segs)) (onto how (chainRows (h .source)) [])
         none-last = ap (onto how (under (h .segs))) (sym (onto-none how []) ∙ ap (λ (x : List Paged). onto how (chainRows x) []) (sym n))
 
@@ -323,37 +372,56 @@ append-level (packed l n i c ss) ts low f = refl
 pub unpack-keeps : (how : ℕ → Sum) (f : Pages) (h : Held) (low : Key) (m : ℕ) (inner : Segs) (c : List Paged) (ss : Segs) → h .segs ≡ packed low m inner c ss → h .source ≡ [] → HeldIn f h → Order h → Kept how f h (unpack (f m) (queueOf h)) c (Under (appendS inner ss)) (levelOf inner)
 unfolding unpackBy written appendS
 unpack-keeps how f h low m inner c ss e n i o =
-    record { held = g; is = ap (λ (x : Segs). unpackBy (f m) (heads x) (queueOf h)) e ∙ ap (λ (x : Page). unpackBy x (heads (packed low m inner c ss)) (queueOf h)) (j .1)
-               ∙ ap (λ (x : List Seg). record { front = h .front; buffer = h .buffer; segments = x; source = headOf c; next = h .next }) (sym (heads-append inner ss));
-             pages = (append-in f (h .next) inner ss (j .3) (j .4), j .2); same = s; order = p; fresh = omega arith; lean = λ l. let b : LeanSegs (packed low m inner c ss) = subst LeanSegs e (l .segs) in record { segs = append-lean inner ss (b .3) (b .1); source = b .0 };
-             few = omega (arith, ap length (append-under inner ss), length-append (under inner) (under ss), ap (λ (x : Segs). length (under x)) e, length-append (chainRows c) (under inner ++ under ss), ap (λ (x : List Paged). length (chainRows x)) n); source = refl; low = λ k u. u; level = omega (arith, append-level inner ss low (k .3));
-             live = λ P d a. let b : Alive P (packed low m inner c ss) = subst (Alive P) e a in append-live P inner ss (b .0) (b .1) }
+    record {
+      held = g;
+      is = ap (λ (x : Segs). unpackBy (f m) (heads x) (queueOf h)) e ∙ ap (λ (x : Page). unpackBy x (heads (packed low m inner c ss)) (queueOf h)) (j .1)
+          ∙ ap (λ (x : List Seg). record { front = h .front; buffer = h .buffer; segments = x; source = headOf c; next = h .next }) (sym (heads-append inner ss));
+      pages = (append-in f (h .next) inner ss (j .3) (j .4), j .2);
+      same = s;
+      order = p;
+      fresh = omega arith;
+      lean = λ l. let b : LeanSegs (packed low m inner c ss) = subst LeanSegs e (l .segs) in record { segs = append-lean inner ss (b .3) (b .1); source = b .0 };
+      few = omega (arith, ap length (append-under inner ss), length-append (under inner) (under ss), ap (λ (x : Segs). length (under x)) e, length-append (chainRows c) (under inner ++ under ss), ap (λ (x : List Paged). length (chainRows x)) n);
+      source = refl;
+      low = λ k u. u;
+      level = omega (arith, append-level inner ss low (k .3));
+      live = λ P d a. let b : Alive P (packed low m inner c ss) = subst (Alive P) e a in append-live P inner ss (b .0) (b .1);
+    }
   where
     g : Held
     g = record { front = h .front; buffer = h .buffer; segs = appendS inner ss; source = c; next = h .next }
+
     j : SegsIn f (h .next) (packed low m inner c ss)
     j = subst (SegsIn f (h .next)) e (i .0)
+
     k : SegsOk Free (packed low m inner c ss)
     k = subst (SegsOk Free) e (o .segs)
+
     b : Each (λ x. Bef x low) (h .front)
     b = subst (λ (x : Segs). Each (Under x) (h .front)) e (o .below)
+
     d : Each (Upto low) (h .buffer)
     d = subst (λ (x : Segs). Each (Over x) (h .buffer)) e (o .above)
+
     lift : (xs ts : Segs) → FirstIs xs low → (x : Key) → Bef x low → Under (appendS xs ts) x
     lift none ts u x v = absurd u
     lift (plain a q xs) ts u x v = rw u v
     lift (packed a r is q xs) ts u x v = rw u v
+
     rise : (xs ts : Segs) → FirstIs xs low → (x : Key) → Upto low x → Over (appendS xs ts) x
     rise none ts u x v = absurd u
     rise (plain a q xs) ts u x v = rw u v
     rise (packed a r is q xs) ts u x v = rw u v
+
     p : Order g
     p = record { front = o .front; buffer = o .buffer; below = each-like (λ x. Bef x low) (Under (appendS inner ss)) (lift inner ss (k .3)) (h .front) b; above = each-like (Upto low) (Over (appendS inner ss)) (rise inner ss (k .3)) (h .buffer) d; segs = append-ok Free inner ss (k .4) (k .2) }
+
     s : contents how g ≡ contents how h
     s = ap (onto how (h .front)) (ap (onto how (h .buffer)) (ap (λ (x : List Row). onto how x (onto how (chainRows c) [])) (append-under inner ss) ∙ onto-both how (under inner ++ under ss) (chainRows c) [] ∙ sym (onto-append how (chainRows c) (under inner ++ under ss) []) ∙ at ∙ none-last))
       where
         at : onto how (chainRows c ++ (under inner ++ under ss)) [] ≡ onto how (under (h .segs)) []
         at = ap (λ (x : Segs). onto how (under x) []) (sym e)
+
         none-last : onto how (under (h .segs)) [] ≡ onto how (under (h .segs)) (onto how (chainRows (h .source)) [])
         none-last = ap (onto how (under (h .segs))) (sym (onto-none how []) ∙ ap (λ (x : List Paged). onto how (chainRows x) []) (sym n))
 
@@ -504,9 +572,13 @@ pack-ok zero k m none o = tt
 pack-ok (suc i) k m none o = tt
 pack-ok zero k m (plain low c ss) o =
     (tt, drop-till k ss low (o .2) (o .1), drop-ok k ss (o .2), refl, (chain-like (Within Free low ss) (Within (Under (dropS k ss)) low (takeS k ss)) (λ x p. (p .0, till-parts k ss x (p .1))) c (o .0), till-parts k ss low (o .1), take-ok k ss (o .2)))
-pack-ok zero k m (packed low n inner c ss) o =
-    (tt, drop-till k ss low (o .2) (o .1), drop-ok k ss (o .2), refl,
-     (chain-like (Within Free low ss) (Within (Under (dropS k ss)) low (takeS k ss)) (λ x p. (p .0, till-parts k ss x (p .1))) c (o .0), till-parts k ss low (o .1), take-ok k ss (o .2), o .3, ok-like (Under ss) (Till (Under (dropS k ss)) (takeS k ss)) (till-parts k ss) inner (o .4)))
+pack-ok zero k m (packed low n inner c ss) o = (
+  tt,
+  drop-till k ss low (o .2) (o .1),
+  drop-ok k ss (o .2),
+  refl,
+  (chain-like (Within Free low ss) (Within (Under (dropS k ss)) low (takeS k ss)) (λ x p. (p .0, till-parts k ss x (p .1))) c (o .0), till-parts k ss low (o .1), take-ok k ss (o .2), o .3, ok-like (Under ss) (Till (Under (dropS k ss)) (takeS k ss)) (till-parts k ss) inner (o .4)),
+)
 pack-ok (suc i) k m (plain low c ss) o = (chain-like (Within Free low ss) (Within Free low (packH i k m ss)) (λ x p. (p .0, pack-low i k m ss x (p .1))) c (o .0), pack-low i k m ss low (o .1), pack-ok i k m ss (o .2))
 pack-ok (suc i) k m (packed low n inner c ss) o =
     (chain-like (Within Free low ss) (Within Free low (packH i k m ss)) (λ x p. (p .0, pack-low i k m ss x (p .1))) c (o .0), pack-low i k m ss low (o .1), pack-ok i k m ss (o .2), o .3, ok-like (Under ss) (Under (packH i k m ss)) (pack-low i k m ss) inner (o .4))
@@ -584,20 +656,36 @@ pack-by : (how : ℕ → Sum) (f : Pages) (i k : ℕ) (h : Held) (xs : List Seg)
 unfolding packBy written
 pack-by how f i k h [] n e hh o = record { held = h; is = refl; pages = hh; same = refl; order = o; fresh = omega arith; lean = λ l. l; few = omega arith; source = refl; low = λ x u. u; level = omega arith; live = λ P d a. a }
 pack-by how f i k h (t ∷ ts) n e hh o =
-    record { held = g; is = ap (λ (x : List Seg). record { front = h .front; buffer = h .buffer; segments = x; source = headOf (h .source); next = suc (h .next) }) (pack-heads (suc i) (suc k) (h .next) (h .segs) t ts e);
-             pages = (pack-in f′ (suc i) (suc k) (h .next) (h .segs) t ts e (written-here w [] f) (segs-more f f′ (h .next) (suc (h .next)) a (omega arith) (h .segs) (hh .0)), chain-more f f′ (h .next) (suc (h .next)) a (omega arith) (h .source) (hh .1));
-             same = ap (λ (x : List Row). onto how (h .front) (onto how (h .buffer) (onto how x (onto how (chainRows (h .source)) [])))) (pack-under (suc i) (suc k) (h .next) (h .segs));
-             order = record { front = o .front; buffer = o .buffer; below = each-like (Under (h .segs)) (Under (packH (suc i) (suc k) (h .next) (h .segs))) (pack-low (suc i) (suc k) (h .next) (h .segs)) (h .front) (o .below);
-                              above = each-like (Over (h .segs)) (Over (packH (suc i) (suc k) (h .next) (h .segs))) (pack-high (suc i) (suc k) (h .next) (h .segs)) (h .buffer) (o .above); segs = pack-ok (suc i) (suc k) (h .next) (h .segs) (o .segs) };
-             fresh = omega arith; lean = λ l. record { segs = pack-lean (suc i) k (h .next) (h .segs) n (l .segs); source = l .source }; few = omega (arith, ap length (pack-under (suc i) (suc k) (h .next) (h .segs)));
-             source = refl; low = pack-low (suc i) (suc k) (h .next) (h .segs); level = omega (arith, pack-level i (suc k) (h .next) (h .segs)); live = λ P d a′. pack-live P (suc i) (suc k) (h .next) (h .segs) a′ }
+    record {
+      held = g;
+      is = ap (λ (x : List Seg). record { front = h .front; buffer = h .buffer; segments = x; source = headOf (h .source); next = suc (h .next) }) (pack-heads (suc i) (suc k) (h .next) (h .segs) t ts e);
+      pages = (pack-in f′ (suc i) (suc k) (h .next) (h .segs) t ts e (written-here w [] f) (segs-more f f′ (h .next) (suc (h .next)) a (omega arith) (h .segs) (hh .0)), chain-more f f′ (h .next) (suc (h .next)) a (omega arith) (h .source) (hh .1));
+      same = ap (λ (x : List Row). onto how (h .front) (onto how (h .buffer) (onto how x (onto how (chainRows (h .source)) [])))) (pack-under (suc i) (suc k) (h .next) (h .segs));
+      order = record {
+        front = o .front;
+        buffer = o .buffer;
+        below = each-like (Under (h .segs)) (Under (packH (suc i) (suc k) (h .next) (h .segs))) (pack-low (suc i) (suc k) (h .next) (h .segs)) (h .front) (o .below);
+        above = each-like (Over (h .segs)) (Over (packH (suc i) (suc k) (h .next) (h .segs))) (pack-high (suc i) (suc k) (h .next) (h .segs)) (h .buffer) (o .above);
+        segs = pack-ok (suc i) (suc k) (h .next) (h .segs) (o .segs);
+      };
+      fresh = omega arith;
+      lean = λ l. record { segs = pack-lean (suc i) k (h .next) (h .segs) n (l .segs); source = l .source };
+      few = omega (arith, ap length (pack-under (suc i) (suc k) (h .next) (h .segs)));
+      source = refl;
+      low = pack-low (suc i) (suc k) (h .next) (h .segs);
+      level = omega (arith, pack-level i (suc k) (h .next) (h .segs));
+      live = λ P d a′. pack-live P (suc i) (suc k) (h .next) (h .segs) a′;
+    }
   where
     g : Held
     g = record { front = h .front; buffer = h .buffer; segs = packH (suc i) (suc k) (h .next) (h .segs); source = h .source; next = suc (h .next) }
+
     w : Write
     w = record { number = h .next; content = IndexPage (t ∷ ts) }
+
     f′ : Pages
     f′ = written (w ∷ []) f
+
     a : (x : ℕ) → x < h .next → f′ x ≡ f x
     a x y = written-below (h .next) (suc (h .next)) (w ∷ []) f x (omega arith) y
 

@@ -96,6 +96,7 @@ not-below k low u = go (ltk-tells k low)
   where
     clash : Bef k low → ⊥
     clash b = grind arith
+
     go : ((ltk k low ≡ true) × Bef k low) ⊎ ((ltk k low ≡ false) × Upto low k) → ltk k low ≡ false
     go (inl p) = absurd (clash (p .1))
     go (inr p) = p .0
@@ -121,8 +122,10 @@ spills ss (r ∷ rs) l o = omega (arith, least, fullest-count (heads ss) (r ∷ 
   where
     s : (i : ℕ) × (isOf i (heads ss) (r .at) ≡ true)
     s = some-segment ss (r .at) (o .0)
+
     here : 1 ≤ count (isOf (s .0) (heads ss)) (r ∷ rs)
     here = rw (s .1) (omega arith)
+
     least : 1 ≤ fullest (heads ss) (r ∷ rs) .rows
     least = fullest-most (s .0) (heads ss) (r ∷ rs) here
 

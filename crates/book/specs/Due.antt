@@ -107,7 +107,7 @@ dueSource m (page n) q = Do Sift
 unfoldable pub dueRows : Sizes → (mark : ℕ) → Queue → Due
 dueRows z m q =
     cond (ltb (z .buffer) (length (q .buffer))) (Do (Spill (fullest (q .segments) (q .buffer) .number)))
-      (cond (ltb (z .front) (length (q .front))) (Do Lower) (dueSource m (q .source) q))
+    (cond (ltb (z .front) (length (q .front))) (Do Lower) (dueSource m (q .source) q))
 
 -- packing comes before spilling (which may add a segment), so that there is never more than one segment too many
 unfoldable pub dueCrowd : Sizes → (mark : ℕ) → Crowd → Queue → Due

@@ -71,7 +71,7 @@ pub record Tag (n i c s : ℕ) : Type 0 where
 
 -- what stays true of old contents, and of pages, when a box is filled
 pub record Stays (OldLedger : List (List Entry) → (ℕ → Box) → List ℕ → Type 0) (OldLog : List (List Entry) → (ℕ → Box) → ℕ → List ℕ → Type 0) (Floor : List (List Entry) → (ℕ → Box) → List ℕ → Type 0) (Spent : List ℕ → ℕ → Type 0)
-  (ls : List (List Entry)) (f : ℕ → Box) (ls' : List (List Entry)) (f' : ℕ → Box) : Type 0 where
+    (ls : List (List Entry)) (f : ℕ → Box) (ls' : List (List Entry)) (f' : ℕ → Box) : Type 0 where
   pub ledger : (x : List ℕ) → OldLedger ls f x → OldLedger ls' f' x
   pub log : (l : ℕ) (x : List ℕ) → OldLog ls f l x → OldLog ls' f' l x
   pub floor : (x : List ℕ) → Floor ls f x → Floor ls' f' x
@@ -82,7 +82,7 @@ pub record Stays (OldLedger : List (List Entry) → (ℕ → Box) → List ℕ �
 --   OldLedger, OldLog, Floor: of the logs and boxes as they are, an old ledger, an old box of a log, a floor not above what is taken
 --   Spent: the ledger is past the step that wrote that page
 pub record Laws (o : Ops) (p : Plan) (logs bound : ℕ) (Sound : ℕ → List (List Entry) → (ℕ → Box) → Type 0) (OldLedger : List (List Entry) → (ℕ → Box) → List ℕ → Type 0) (OldLog : List (List Entry) → (ℕ → Box) → ℕ → List ℕ → Type 0) (Floor : List (List Entry) → (ℕ → Box) → List ℕ → Type 0)
-  (Spent : List ℕ → ℕ → Type 0) : Type 0 where
+    (Spent : List ℕ → ℕ → Type 0) : Type 0 where
   pub ledger-now : {n : ℕ} {ls : List (List Entry)} {f : ℕ → Box} → Sound n ls f → OldLedger ls f (f 0 .bytes)
   pub log-now : {n : ℕ} {ls : List (List Entry)} {f : ℕ → Box} → Sound n ls f → (l : ℕ) → OldLog ls f l (f (logBox l) .bytes)
   pub floor-none : (ls : List (List Entry)) (f : ℕ → Box) → Floor ls f []
@@ -105,16 +105,16 @@ pub record Laws (o : Ops) (p : Plan) (logs bound : ℕ) (Sound : ℕ → List (L
   pub has-other : (ls : List (List Entry)) (f : ℕ → Box) (n i c s l : ℕ) (fl old bs : List ℕ) (es : List Entry) → n < bound → l < logs → OldLog ls f l old → Tag n i c s → o .adds fl i c s l old es ≡ gives bs → (j d t : ℕ) → (j ≡ i → ⊥) → o .has bs j d t ≡ o .has old j d t
   -- the fillings
   pub put-ok : {n : ℕ} {ls : List (List Entry)} {f : ℕ → Box} (i c s l e : ℕ) (fl bs : List ℕ) (es : List Entry) → n < bound → Sound n ls f → l < logs → Floor ls f fl → Tag n i c s → ((x : Entry) → List·Memᴰ x es → T (entryOk x)) → length es ≤ 8 → o .adds fl i c s l (f (logBox l) .bytes) es ≡ gives bs →
-    Sound (suc n) (putAll l es ls) (at (logBox l) (record { edition = e + 1; bytes = bs }) f) × Stays OldLedger OldLog Floor Spent ls f (putAll l es ls) (at (logBox l) (record { edition = e + 1; bytes = bs }) f)
+      Sound (suc n) (putAll l es ls) (at (logBox l) (record { edition = e + 1; bytes = bs }) f) × Stays OldLedger OldLog Floor Spent ls f (putAll l es ls) (at (logBox l) (record { edition = e + 1; bytes = bs }) f)
   pub page-ok : {n : ℕ} {ls : List (List Entry)} {f : ℕ → Box} (x : List ℕ) (a : Filling) → n < bound → Sound n ls f → Now f (o .due (f 0 .bytes)) x → List·Memᴰ a (o .pages (f 0 .bytes) x) → f (a .box) .edition ≡ 0 →
-    Sound (suc n) ls (at (a .box) (record { edition = 1; bytes = a .bytes }) f) × Stays OldLedger OldLog Floor Spent ls f ls (at (a .box) (record { edition = 1; bytes = a .bytes }) f)
+      Sound (suc n) ls (at (a .box) (record { edition = 1; bytes = a .bytes }) f) × Stays OldLedger OldLog Floor Spent ls f ls (at (a .box) (record { edition = 1; bytes = a .bytes }) f)
   pub step-ok : {n : ℕ} {ls : List (List Entry)} {f : ℕ → Box} (e : ℕ) (x : List ℕ) → n < bound → Sound n ls f → Now f (o .due (f 0 .bytes)) x → ((a : Filling) → List·Memᴰ a (o .pages (f 0 .bytes) x) → (1 ≤ f (a .box) .edition) × (f (a .box) .bytes ≡ a .bytes)) →
-    Sound (suc n) ls (at 0 (record { edition = e + 1; bytes = o .after (f 0 .bytes) x }) f) × Stays OldLedger OldLog Floor Spent ls f ls (at 0 (record { edition = e + 1; bytes = o .after (f 0 .bytes) x }) f) × ((a : Filling) → List·Memᴰ a (o .pages (f 0 .bytes) x) → Spent (o .after (f 0 .bytes) x) (a .box))
+      Sound (suc n) ls (at 0 (record { edition = e + 1; bytes = o .after (f 0 .bytes) x }) f) × Stays OldLedger OldLog Floor Spent ls f ls (at 0 (record { edition = e + 1; bytes = o .after (f 0 .bytes) x }) f) × ((a : Filling) → List·Memᴰ a (o .pages (f 0 .bytes) x) → Spent (o .after (f 0 .bytes) x) (a .box))
   pub same-ok : {n : ℕ} {ls : List (List Entry)} {f : ℕ → Box} (e : ℕ) → Sound n ls f → Sound n ls (at 0 (record { edition = e + 1; bytes = f 0 .bytes }) f) × Stays OldLedger OldLog Floor Spent ls f ls (at 0 (record { edition = e + 1; bytes = f 0 .bytes }) f)
   pub take-ok : {n : ℕ} {ls : List (List Entry)} {f : ℕ → Box} (e l : ℕ) (x y : List ℕ) → n < bound → Sound n ls f → o .due (f 0 .bytes) ≡ nothing → l < logs → OldLog ls f l x → o .take (f 0 .bytes) l x ≡ gives y →
-    Sound n ls (at 0 (record { edition = e + 1; bytes = y }) f) × Stays OldLedger OldLog Floor Spent ls f ls (at 0 (record { edition = e + 1; bytes = y }) f)
+      Sound n ls (at 0 (record { edition = e + 1; bytes = y }) f) × Stays OldLedger OldLog Floor Spent ls f ls (at 0 (record { edition = e + 1; bytes = y }) f)
   pub answer-ok : {n : ℕ} {ls : List (List Entry)} {f : ℕ → Box} (from most : ℕ) (x : List ℕ) (got es : List Event) → Sound n ls f → OldLedger ls f x → Gathered o (λ b y. Spent (f 0 .bytes) b × (f b .bytes ≡ y)) from most x got → o .answer from most x got ≡ reply es →
-    (j : ℕ) × (j ≤ most) × (es ≡ firstOf j (dropOf from (out p ls)))
+      (j : ℕ) × (j ≤ most) × (es ≡ firstOf j (dropOf from (out p ls)))
 
 -- A BOOK that keeps them
 pub record Safe (o : Ops) (p : Plan) (logs : ℕ) : Type 1 where

@@ -21,7 +21,7 @@ pub record Limits (z : Sizes) (p : Plan) (logs bound : ℕ) (Within : ℕ → Li
   pub starts : Within 0 (empties logs) (emptyBook logs)
   pub later : {n : ℕ} {ls : List (List Entry)} {x : Book} → Within n ls x → Within (suc n) ls x
   pub batch : {n : ℕ} {ls : List (List Entry)} {x : Book} (l floor i c s : ℕ) (es : List Entry) → n < bound → SoundBook z p ls x → Within n ls x → l < logs → floor ≤ takenOf l (x .ledger .logs) .taken → Tag n i c s → ((e : Entry) → List·Memᴰ e es → T (entryOk e)) → length es ≤ 8 →
-    length (letGo floor (x .log l) .events) + length es ≤ z .log → Within (suc n) (putAll l es ls) (putBatch p l floor i (record { life = c; serial = s }) es x)
+      length (letGo floor (x .log l) .events) + length es ≤ z .log → Within (suc n) (putAll l es ls) (putBatch p l floor i (record { life = c; serial = s }) es x)
   pub take : {n : ℕ} {ls : List (List Entry)} {x : Book} (l : ℕ) (b : LogBox) → n < bound → SoundBook z p ls x → Within n ls x → wanted z (p .late) (x .ledger) ≡ Rest → l < logs → HeldOnce (p .late) (logOf l ls) b → isOld l b (x .ledger) ≡ false → Within n ls (takeInto z p l b x)
   pub turn : {n : ℕ} {ls : List (List Entry)} {x : Book} (k : Task) → n < bound → SoundBook z p ls x → Within n ls x → wanted z (p .late) (x .ledger) ≡ Want k → Within (suc n) ls (afterTurn (turnOf z p k x) x)
   -- the contents that a step fills: their numbers are words, and pages are within 1 MiB

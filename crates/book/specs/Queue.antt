@@ -55,8 +55,8 @@ isUp (s ∷ ss) k = not (ltk k (s .low))
 unfoldable pub place : (ℕ → Sum) → Row → Queue → Queue
 place how r q =
     cond (isUp (q .segments) (r .at))
-      (record { front = q .front; buffer = add how r (q .buffer); segments = q .segments; source = q .source; next = q .next })
-      (record { front = add how r (q .front); buffer = q .buffer; segments = q .segments; source = q .source; next = q .next })
+    (record { front = q .front; buffer = add how r (q .buffer); segments = q .segments; source = q .source; next = q .next })
+    (record { front = add how r (q .front); buffer = q .buffer; segments = q .segments; source = q .source; next = q .next })
 
 unfoldable pub places : (ℕ → Sum) → List Row → Queue → Queue
 places how [] q = q
@@ -75,8 +75,10 @@ lower how n q = record { queue = lowerBy how (take n (q .front)) (drop n (q .fro
 unfoldable pub packBy : (low mid high : List Seg) → Queue → After
 packBy ss [] us q = record { queue = q; writes = [] }
 packBy ss (t ∷ ts) us q =
-    record { queue = record { front = q .front; buffer = q .buffer; segments = ss ++ (record { low = t .low; index = page (q .next); head = nil; level = suc (t .level) } ∷ us); source = q .source; next = suc (q .next) };
-             writes = record { number = q .next; content = IndexPage (t ∷ ts) } ∷ [] }
+    record {
+      queue = record { front = q .front; buffer = q .buffer; segments = ss ++ (record { low = t .low; index = page (q .next); head = nil; level = suc (t .level) } ∷ us); source = q .source; next = suc (q .next) };
+      writes = record { number = q .next; content = IndexPage (t ∷ ts) } ∷ [];
+    }
 
 abbrev pub pack : (skip many : ℕ) → Queue → After
 pack i k q = packBy (take i (q .segments)) (take k (drop i (q .segments))) (drop k (drop i (q .segments))) q
@@ -137,8 +139,10 @@ pub record Spilled : Type 0 where
 unfoldable pub splitBy : (n : ℕ) → Seg → (low high : List Row) → Spilled
 splitBy n s xs [] = record { segs = record { low = s .low; index = nil; head = page n; level = 0 } ∷ []; writes = record { number = n; content = RowPage nil xs } ∷ [] }
 splitBy n s xs (y ∷ ys) =
-    record { segs = record { low = s .low; index = nil; head = page n; level = 0 } ∷ record { low = y .at; index = nil; head = page (suc n); level = 0 } ∷ [];
-             writes = record { number = n; content = RowPage nil xs } ∷ record { number = suc n; content = RowPage nil (y ∷ ys) } ∷ [] }
+    record {
+      segs = record { low = s .low; index = nil; head = page n; level = 0 } ∷ record { low = y .at; index = nil; head = page (suc n); level = 0 } ∷ [];
+      writes = record { number = n; content = RowPage nil xs } ∷ record { number = suc n; content = RowPage nil (y ∷ ys) } ∷ [];
+    }
 
 abbrev pub onePage : (n : ℕ) → Seg → Link → List Row → Spilled
 onePage n s below rows = record { segs = record { low = s .low; index = s .index; head = page n; level = s .level } ∷ []; writes = record { number = n; content = RowPage below rows } ∷ [] }
