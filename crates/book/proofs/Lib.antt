@@ -18,4 +18,4 @@ mod Parts
 mod Safe
 mod Small
 mod Limits
-mod Laws
+pub mod Laws

@@ -14,3 +14,4 @@ pub mod Real
 pub mod Limits
 pub mod Small
 pub mod Right
+pub mod Live

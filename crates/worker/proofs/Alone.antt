@@ -8,7 +8,7 @@ use lib.Dec.{eqb}
 use Rattle.std.proofs.shelf.Tests.{eq-eqb, cond-true, cond-false}
 use Rattle.streams.specs.Calls.{Call, Reply}
 use Rattle.streams.specs.Hands.{Box, In, Shown, Filled, Beat, Way, wantsBox, wantsFill, here, Seen, told, at, Scene, Comes, a-beat, Goes}
-use Rattle.interface.specs.Ops.{Ops}
+use Rattle.book.specs.Interface.{Ops}
 use Rattle.worker.specs.Worker.{Mind, Told, Asks, none', show, fill, Step, hearing, stays, isRest, start, onShown, onFilled, acts, worker}
 use Rattle.shelf.proofs.Scripts.{Fits, Script, begin, under-way, Turned, take-turn, Answered, be-shown, fail-to-fill}
 use Rattle.shelf.proofs.Scripts as scripts

@@ -11,7 +11,8 @@ use Rattle.std.proofs.shelf.Tests.{cond-both, eq-eqb, ltb-false, both-ways}
 use Rattle.streams.specs.Meaning.{Event, Plan}
 use Rattle.streams.specs.Calls.{Call, Put, Out', Drop, Reply, No, Yes, Outs, entryOk}
 use Rattle.streams.specs.Hands.{Box, In, From, Shown, Filled, Ask, Beat, Tell, here, Seen, Scene, Goes, countAt, Way}
-use Rattle.interface.specs.Ops.{Gives, lacks, gives, Due, nothing, alone, withPage, Next, page, reply, Page, Ops, logBox}
+use Rattle.book.specs.Ledger.{logBox}
+use Rattle.book.specs.Interface.{Gives, lacks, gives, Calls, nothing, alone, withPage, Next, page, reply, Filling, Ops}
 use Rattle.worker.specs.Worker.{Job, Batch, none, some, Phase, rest, log, put, ledger, page', written, kept, look, answer', gather, Keep, Mind, Told, Asks, none', show, fill, Step, keepIf, entries, stays, asks, keeping, hearing, looking, waits, fixed, settled', forLog, yeses, isNothing, readLedger, startCall, startBy, start, idleBy, idle, settle, fillLog, putting, onLogBy, onPutBy, write, nextLog, onLedgerBy, onLedger, tookBy, gatherBy, gathers, onShown, onFilled, refuses, accepts, judges, acts, putsOf, isRest, telling, asking', worker, lessOne}
 use Rattle.worker.specs.Laws.{Laws}
 use Rattle.shelf.proofs.Places.{all-cons, all-none}
@@ -71,7 +72,7 @@ module _ (o : Ops) (logs : ℕ) where
   kp-rest : (m : Mind) → Kp (m .keep) (idle o logs m)
   kp-rest m = kp-idle m (m .keep .batch) (m .keep .waiting)
 
-  kp-write : (m : Mind) (e : ℕ) (ts : List Page) (y : List ℕ) → Kp (m .keep) (write o logs m e ts y)
+  kp-write : (m : Mind) (e : ℕ) (ts : List Filling) (y : List ℕ) → Kp (m .keep) (write o logs m e ts y)
   kp-write m e [] y = (refl, refl)
   kp-write m e (t ∷ ts) y = (refl, refl)
 
@@ -79,7 +80,7 @@ module _ (o : Ops) (logs : ℕ) where
   kp-next m e y c = cond-both (ltb (m .place) logs && not (eqb (m .left) 0)) (asks m (show (logBox (m .place))) (look e y c (m .place))) (cond c (asks m (fill 0 e y) kept) (idle o logs m)) (Kp (m .keep))
       (λ t. (refl, refl)) (λ t. cond-both c (asks m (fill 0 e y) kept) (idle o logs m) (Kp (m .keep)) (λ t. (refl, refl)) (λ t. kp-rest m))
 
-  kp-ledger : (m : Mind) (x : Box) (d : Due) → Kp (m .keep) (onLedgerBy o logs m x d)
+  kp-ledger : (m : Mind) (x : Box) (d : Calls) → Kp (m .keep) (onLedgerBy o logs m x d)
   kp-ledger m x nothing = kp-next m (x .edition) (x .bytes) false
   kp-ledger m x alone = kp-write m (x .edition) (o .pages (x .bytes) []) (o .after (x .bytes) [])
   kp-ledger m x (withPage b) = (refl, refl)

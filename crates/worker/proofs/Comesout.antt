@@ -1,4 +1,4 @@
--- OneIsEnough and ComesOut for the worker, over any book that keeps Plain and Live.
+-- OneIsEnough and ComesOut for the worker, over any book that keeps Safe and Live.
 use mathlib.Core.Path.{_≡_, refl, sym, ap, subst, subst₂, _∙_}
 use mathlib.Core.Logic.{_⊎_, inl, inr, ⊎-elim}
 use mathlib.Core.Bool.{true, false, not}
@@ -12,10 +12,10 @@ use Rattle.streams.specs.Meaning.{Entry, Plan, out}
 use Rattle.streams.specs.Calls.{Call, Out', Reply, Outs, State, core, firstOf, dropOf}
 use Rattle.streams.specs.Hands.{Ask, Hand, Stand, here, Seen, called, told, tells, isUsed, Scene, Waits, countAt, turned, asking, Alone, Goes, asked, Open, Ready, Book}
 use Rattle.streams.specs.Promise.{streams}
-use Rattle.interface.specs.Ops.{nothing, reply, Ops, logBox}
+use Rattle.book.specs.Ledger.{logBox}
+use Rattle.book.specs.Interface.{nothing, reply, Ops, Safe}
 use Rattle.worker.specs.Worker.{Job, none, some, rest, Keep, Mind, none', asks, keeping, hearing, waits, start, startBy, accepts, judges, refuses, acts, worker, putsOf}
-use Rattle.interface.specs.Plain.{Plain}
-use Rattle.interface.specs.Live.{Live, AnswersAll}
+use Rattle.book.specs.Live.{Live, AnswersAll}
 use Rattle.worker.specs.Theorems.{WorkerEnds, WorkerOut}
 use Rattle.shelf.proofs.Places.{at-self}
 use Rattle.shelf.proofs.Waiting.{Waiting, waits-ok}
@@ -32,7 +32,7 @@ empty-has : (k : Keep) (n : ℕ) → k .batch ≡ none → k .waiting ≡ [] →
 empty-has k n b w (inl z) = elim (subst (List·Memᴰ (z .0)) w (z .1)) [ ]
 empty-has k n b w (inr z) = none-some (sym b ∙ z .2)
 
-module _ (o : Ops) (p : Plan) (logs : ℕ) (P : Plain o p logs) (V : Live o p logs P) (one : 1 ≤ logs) (all n : ℕ) (al : all ≤ 64) (sm : n < 72057594037927936) (es : List (Seen Call Reply)) (s : Scene Mind ℕ) (g : Goes (worker o logs) all n es s)
+module _ (o : Ops) (p : Plan) (logs : ℕ) (P : Safe o p logs) (V : Live o p logs P) (one : 1 ≤ logs) (all n : ℕ) (al : all ≤ 64) (sm : n < 72057594037927936) (es : List (Seen Call Reply)) (s : Scene Mind ℕ) (g : Goes (worker o logs) all n es s)
     (i c : ℕ) (m : Mind) (lt : i < all) (e : s .hand i ≡ here c m) where
   abbrev H : Hand ℕ Call Reply
   H = worker o logs

@@ -11,10 +11,10 @@ use Rattle.std.proofs.shelf.Tests.{eqb-true, eq-eqb, ne-eqb, lt-ltb, ltb-true, 
 use Rattle.streams.specs.Meaning.{Event, Entry, Plan}
 use Rattle.streams.specs.Calls.{Call, Put, Out', Drop, Reply, Outs}
 use Rattle.streams.specs.Hands.{Box, Seen, at, Scene, Beat, a-beat}
-use Rattle.interface.specs.Ops.{Gives, lacks, gives, nothing, Next, page, reply, Ops, logBox, Gathered, noPage, onePage}
+use Rattle.book.specs.Ledger.{logBox}
+use Rattle.book.specs.Interface.{Gives, lacks, gives, nothing, Next, page, reply, Ops, Gathered, noPage, onePage, Safe}
 use Rattle.worker.specs.Worker.{Job, Batch, none, some, rest, log, put, answer', gather, Keep, Mind, Told, none', show, fill, Step, asks, keeping, hearing, looking, waits, fixed, settled', saying, forLog, keepIf, entries, yeses, putsOf, readLedger, startCall, startBy, start, idleBy, idle, settle, fillLog, putting, onLogBy, onPutBy, gatherBy, gathers, acts}
-use Rattle.interface.specs.Plain.{Plain}
-use Rattle.interface.specs.Live.{Live}
+use Rattle.book.specs.Live.{Live}
 use Rattle.worker.proofs.Jobs.{keep-less, entries-few}
 use Rattle.worker.proofs.Invariant.{log-some, CallOk}
 use Rattle.worker.proofs.Onebook.{inv}
@@ -34,7 +34,7 @@ batchOne (some l ps) = 1
 abbrev pub jobsIn : Keep → ℕ
 jobsIn k = length (k .waiting) + batchOne (k .batch)
 
-module _ (o : Ops) (p : Plan) (logs : ℕ) (P : Plain o p logs) (V : Live o p logs P) (one : 1 ≤ logs) (all i c : ℕ) (al : all ≤ 64) (lt : i < all) (es : List (Seen Call Reply)) (s : Scene Mind ℕ) where
+module _ (o : Ops) (p : Plan) (logs : ℕ) (P : Safe o p logs) (V : Live o p logs P) (one : 1 ≤ logs) (all i c : ℕ) (al : all ≤ 64) (lt : i < all) (es : List (Seen Call Reply)) (s : Scene Mind ℕ) where
   abbrev pub B : Step → (ℕ → Box) → ℕ → Type 0
   B r f n = At o logs all i c lt es s r f n
 
@@ -241,8 +241,8 @@ module _ (o : Ops) (p : Plan) (logs : ℕ) (P : Plain o p logs) (V : Live o p lo
       by : Again → (x : Next) → o .answer from most (f 0 .bytes) got ≡ x → B (gatherBy o logs m k from most (f 0 .bytes) got x) f n → Answered (m .keep) f top k from most
       by again (reply ev) e a = record { m = m; n = n; got = got; es' = ev; at' = a; keep = refl; is = e; gathered = ga; steps = omega (arith, bud) }
       by again (page b) e a =
-          let sp = P .answer-spent (sd .1) from most (f 0 .bytes) got b (P .led-now (sd .1)) e in
-          let ed = P .spent-filled (sd .1) b sp .1 in
+          let sp = P .laws .answer-spent (sd .1) from most (f 0 .bytes) got b (P .laws .ledger-now (sd .1)) e in
+          let ed = P .laws .spent-filled (sd .1) b sp .1 in
           let ls = V .left-less sm (sd .1) from most b got e in
           again m1 f (suc (suc n)) k from most (o .more from most (f 0 .bytes) got (f b .bytes)) top tb (omega (arith, ls, ms)) (omega (arith, bud)) (onePage b (f b .bytes) ga e (sp, refl))
           (subst (λ z. B z f (suc (suc n))) (cond-false (eqb (f b .edition) 0) (start o logs m1) (gathers o logs m1 k from most (f 0 .bytes) (o .more from most (f 0 .bytes) got (f b .bytes))) (ne-eqb (f b .edition) 0 (λ z. omega (arith, z, ed))))

@@ -13,7 +13,9 @@ use Rattle.std.proofs.shelf.Tests.{eqb-true, eqb-false, eq-eqb, cond-both, or-l
 use Rattle.streams.specs.Meaning.{Event, Plan, out}
 use Rattle.streams.specs.Calls.{Call, Put, Out', Drop, Reply, No, Yes, Outs, State, entryOk, core, dropOf, firstOf, Answers, outs, badPut, noLog, tooMany, not-yet}
 use Rattle.streams.specs.Hands.{Box, In, Ask, Way, word, wantsBox, wantsFill, shows, says, Stand, away, here, Seen, called, told, isUsed, isIn, at, Open, Ready, fillable, allBytes, Comes, a-word, a-box, a-filling, a-beat}
-use Rattle.interface.specs.Ops.{Gives, lacks, gives, Due, nothing, alone, withPage, Next, page, reply, Page, Ops, logBox, putAll, IsPage, Gathered, noPage, onePage, Tag}
+use Rattle.book.specs.Ledger.{logBox}
+use Rattle.book.specs.Book.{putAll}
+use Rattle.book.specs.Interface.{Gives, lacks, gives, Calls, nothing, alone, withPage, Next, page, reply, Filling, Ops, IsPage, Gathered, noPage, onePage, Tag}
 use Rattle.worker.specs.Worker.{stays, asks, keeping, hearing, looking, waits, fixed, settled', saying, forLog, yeses, isNothing, readLedger, startCall, startBy, start, idleBy, idle, settle, fillLog, putting, onLogBy, onPutBy, write, nextLog, onLedgerBy, onLedger, onPage, tookBy, gatherBy, gathers, onShown, onFilled, refuses, accepts, judges, acts, putsOf, isRest, worker, lessOne, Job, Batch, none, some, Phase, rest, log, put, ledger, page', written, kept, look, answer', gather, Keep, Mind, Told, Asks, none', show, fill, Step, keepIf, entries}
 use Rattle.worker.specs.Laws.{Right, Laws}
 use Rattle.shelf.proofs.Places.{all-cons, all-none, all-append, at-case, at-hands, not-here, at-self, at-one}
@@ -93,14 +95,14 @@ module _ (o : Ops) (p : Plan) (logs : ℕ) (L : Laws o p logs) where
     takes : {y : List ℕ} (l : ℕ) (b z : List ℕ) → Taken w x y → o .due y ≡ nothing → l < logs → L .Was w (logBox l) b → o .take y l b ≡ gives z → Taken w x z
 
   -- a step that is due, with some of its pages still to be filled
-  pub record Doing (w : L .World) (f : ℕ → Box) (e : ℕ) (ts : List Page) (y : List ℕ) : Type 0 where
+  pub record Doing (w : L .World) (f : ℕ → Box) (e : ℕ) (ts : List Filling) (y : List ℕ) : Type 0 where
     pub led : List ℕ
     pub shown : List ℕ
     pub old : OldAt w f 0 e led
     pub right : Right (L .Must w) (o .due led) shown
     pub is : y ≡ o .after led shown
-    pub todo : (a : Page) → List·Memᴰ a (o .pages led shown) → (1 ≤ f (a .box) .edition) ⊎ List·Memᴰ a ts
-    pub sub : (a : Page) → List·Memᴰ a ts → List·Memᴰ a (o .pages led shown)
+    pub todo : (a : Filling) → List·Memᴰ a (o .pages led shown) → (1 ≤ f (a .box) .edition) ⊎ List·Memᴰ a ts
+    pub sub : (a : Filling) → List·Memᴰ a ts → List·Memᴰ a (o .pages led shown)
 
   -- a ledger of an edition at which nothing is due, with what was taken since
   pub record Taking (w : L .World) (f : ℕ → Box) (e : ℕ) (y : List ℕ) : Type 0 where
@@ -265,12 +267,12 @@ module _ (o : Ops) (p : Plan) (logs : ℕ) (L : Laws o p logs) where
     pub old-on : {b e : ℕ} {y : List ℕ} → OldAt u f b e y → OldAt w g b e y
     old-on {b} {e} {y} h = record { upto = omega (arith, h .upto, x .eds b); same = λ q. sym (x .sames b (omega (arith, h .upto, x .eds b))) ∙ h .same (omega (arith, h .upto, x .eds b)); was = L .was-on (x .ups) b y (h .was) }
 
-    right-on : (d : Due) (y : List ℕ) → Right (L .Must u) d y → Right (L .Must w) d y
+    right-on : (d : Calls) (y : List ℕ) → Right (L .Must u) d y → Right (L .Must w) d y
     right-on nothing y h = h
     right-on alone y h = h
     right-on (withPage b) y h = L .must-on (x .ups) b y h
 
-    pub doing-on : {e : ℕ} {ts : List Page} {y : List ℕ} → Doing u f e ts y → Doing w g e ts y
+    pub doing-on : {e : ℕ} {ts : List Filling} {y : List ℕ} → Doing u f e ts y → Doing w g e ts y
     doing-on {e} {ts} {y} h = record { led = h .led; shown = h .shown; old = old-on (h .old); right = right-on (o .due (h .led)) (h .shown) (h .right); is = h .is; todo = λ a m. ⊎-elim (λ z. inl (omega (arith, z, x .eds (a .box)))) (λ z. inr z) (h .todo a m); sub = h .sub }
 
     taken-on : {y z : List ℕ} → Taken u y z → Taken w y z
@@ -314,7 +316,7 @@ module _ (o : Ops) (p : Plan) (logs : ℕ) (L : Laws o p logs) where
     pub mines : (i c s l e : ℕ) (ps : List Job) → isIn c (v .drawn) ≡ true → Made (v .seen) i ps → ((d : ℕ) (m : Mind) → h i ≡ here d m → Mine (v .f) i c s l e ps d (m .keep)) → (d : ℕ) (m : Mind) → h' i ≡ here d m → Mine (v .f) i c s l e ps d (m .keep)
 
   tag-on : {n n' i c s : ℕ} → n ≤ n' → Tag n i c s → Tag n' i c s
-  tag-on le t = record { hand = t .hand; life = t .life; from = t .from; upto = omega (arith, le, t .upto) }
+  tag-on le t = record { worker = t .worker; life = t .life; from = t .from; upto = omega (arith, le, t .upto) }
 
   module _ {u w : L .World} {v v' : Core} {h' h'' : ℕ → Stand Mind} (g : Grows u w v v' h' h'') where
     log-on : {i c b e : ℕ} {bs : List ℕ} → LogFill u v h' i c b e bs → LogFill w v' h'' i c b e bs
@@ -598,11 +600,11 @@ module _ (o : Ops) (p : Plan) (logs : ℕ) (L : Laws o p logs) where
         right' : Right (L .Must (v .w)) (o .due (v .co .f 0 .bytes)) (x .shown)
         right' = subst (λ z. Right (L .Must (v .w)) (o .due z) (x .shown)) (sym is) (x .right)
 
-        at-least : (a : Page) → (1 ≤ v .co .f (a .box) .edition) ⊎ List·Memᴰ a [] → 1 ≤ v .co .f (a .box) .edition
+        at-least : (a : Filling) → (1 ≤ v .co .f (a .box) .edition) ⊎ List·Memᴰ a [] → 1 ≤ v .co .f (a .box) .edition
         at-least a (inl y) = y
         at-least a (inr y) = elim y [ ]
 
-        pages' : (a : Page) → List·Memᴰ a (o .pages (v .co .f 0 .bytes) (x .shown)) → (1 ≤ v .co .f (a .box) .edition) × (v .co .f (a .box) .bytes ≡ a .bytes)
+        pages' : (a : Filling) → List·Memᴰ a (o .pages (v .co .f 0 .bytes) (x .shown)) → (1 ≤ v .co .f (a .box) .edition) × (v .co .f (a .box) .bytes ≡ a .bytes)
         pages' a m =
             let one : 1 ≤ v .co .f (a .box) .edition = at-least a (x .todo a (subst (λ z. List·Memᴰ a (o .pages z (x .shown))) is m)) in
             let must = L .must-of (h .sound) (v .co .f 0 .bytes) (x .shown) (L .was-now (h .sound) 0) right' a m in
@@ -769,7 +771,7 @@ module _ (o : Ops) (p : Plan) (logs : ℕ) (L : Laws o p logs) where
     idle-ok m b = idle-by m b (m .keep .batch) (m .keep .waiting) refl refl
 
     -- the ledger
-    write-ok : (m : Mind) → Base (m .keep) (m .floor) → (e : ℕ) (ts : List Page) (y : List ℕ) → Doing w (co .f) e ts y → D (write o logs m e ts y)
+    write-ok : (m : Mind) → Base (m .keep) (m .floor) → (e : ℕ) (ts : List Filling) (y : List ℕ) → Doing w (co .f) e ts y → D (write o logs m e ts y)
     write-ok m b e [] y d = asks-ok m b (fill 0 e y) kept (inr (inl (refl, inl d))) tt
     write-ok m b e (t ∷ ts) y d = let a = L .must-of (sm .sound) (d .led) (d .shown) (d .old .was) (d .right) t (d .sub t (List·Memᴰ·head refl)) in
         asks-ok m b (fill (t .box) 0 (t .bytes)) (written e t ts y) (inr (inr (a .1, refl, a .0))) (List·Memᴰ·head refl, d)
@@ -782,7 +784,7 @@ module _ (o : Ops) (p : Plan) (logs : ℕ) (L : Laws o p logs) where
     doing-all : (e : ℕ) (l x : List ℕ) → OldAt w (co .f) 0 e l → Right (L .Must w) (o .due l) x → Doing w (co .f) e (o .pages l x) (o .after l x)
     doing-all e l x old r = record { led = l; shown = x; old = old; right = r; is = refl; todo = λ a m. inr m; sub = λ a m. m }
 
-    ledger-by : (m : Mind) → Base (m .keep) (m .floor) → (x : Box) → OldAt w (co .f) 0 (x .edition) (x .bytes) → (d : Due) → o .due (x .bytes) ≡ d → D (onLedgerBy o logs m x d)
+    ledger-by : (m : Mind) → Base (m .keep) (m .floor) → (x : Box) → OldAt w (co .f) 0 (x .edition) (x .bytes) → (d : Calls) → o .due (x .bytes) ≡ d → D (onLedgerBy o logs m x d)
     ledger-by m b x old nothing e = next-ok m b (x .edition) (x .bytes) false (record { led = x .bytes; old = old; idle = e; took = same }) e
     ledger-by m b x old alone e = write-ok m b (x .edition) (o .pages (x .bytes) []) (o .after (x .bytes) []) (doing-all (x .edition) (x .bytes) [] old (subst (λ z. Right (L .Must w) z []) (sym e) refl))
     ledger-by m b x old (withPage t) e = asks-ok m b (show t) (page' (x .edition) (x .bytes) t) tt (List·Memᴰ·head refl, old, e)
@@ -804,7 +806,7 @@ module _ (o : Ops) (p : Plan) (logs : ℕ) (L : Laws o p logs) where
         t' : Taking w (co .f) e z
         t' = record { led = t .led; old = t .old; idle = t .idle; took = takes l x z (t .took) d lt was g }
 
-        is-nothing : (a : Due) → isNothing a ≡ true → a ≡ nothing
+        is-nothing : (a : Calls) → isNothing a ≡ true → a ≡ nothing
         is-nothing nothing u = refl
         is-nothing alone u = absurd (both-ways false refl u)
         is-nothing (withPage n) u = absurd (both-ways false refl u)
@@ -820,7 +822,7 @@ module _ (o : Ops) (p : Plan) (logs : ℕ) (L : Laws o p logs) where
         bo = bk .keep .batch l ps is
 
         tag : Tag (co .n) i c (k .serial)
-        tag = record { hand = bk .keep .hand; life = bk .keep .life; from = bo .from; upto = bk .keep .serial }
+        tag = record { worker = bk .keep .hand; life = bk .keep .life; from = bo .from; upto = bk .keep .serial }
 
         adds : o .adds (m .floor) i c (k .serial) l (x .bytes) (entries ps) ≡ gives bs
         adds = subst₂ (λ y z. o .adds (m .floor) y z (k .serial) l (x .bytes) (entries ps) ≡ gives bs) (bk .keep .me) (bk .keep .chance) g
@@ -1137,7 +1139,7 @@ module _ (o : Ops) (p : Plan) (logs : ℕ) (L : Laws o p logs) where
         there : 1 ≤ v .co .f (t .box) .edition
         there = page-there d g (t .box) (t .bytes) (L .must-of (h .sound) (x .led) (x .shown) (x .old .was) (x .right) t (x .sub t (List·Memᴰ·head refl)) .0) s (q .0)
 
-        left' : (b : Page) → List·Memᴰ b (t ∷ ts) → (1 ≤ v .co .f (b .box) .edition) ⊎ List·Memᴰ b ts
+        left' : (b : Filling) → List·Memᴰ b (t ∷ ts) → (1 ≤ v .co .f (b .box) .edition) ⊎ List·Memᴰ b ts
         left' b (List·Memᴰ·head z) = inl (subst (λ y. 1 ≤ v .co .f (y .box) .edition) (sym z) there)
         left' b (List·Memᴰ·tail z) = inr z
     filled-by d g s kept q = quiet (readLedger o logs (hearing m true)) (read-ok (v .co .seen) (v .w) qco (v .ways) i c (m .keep) sm (hearing m true) q-base)

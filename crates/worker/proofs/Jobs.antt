@@ -12,7 +12,7 @@ use Rattle.streams.specs.Meaning.{Entry, Plan}
 use Rattle.streams.specs.Calls.{Call, Put, Out', Drop, Reply, Yes, State, entryOk, core, empties, putIn, put}
 use Rattle.streams.specs.Hands.{Seen, told, Keeper, Open, Ready, Way, wantsBox, wantsFill, sent, tells}
 use Rattle.streams.specs.Promise.{streams}
-use Rattle.interface.specs.Ops.{putAll}
+use Rattle.book.specs.Book.{putAll}
 use Rattle.worker.specs.Worker.{Job, Told, Asks, none', show, fill, keepIf, entries, entryOf, yeses, telling, asking'}
 use Rattle.shelf.proofs.Places.{all-cons, all-none}
 use Rattle.shelf.proofs.Latelooks.{Less, less-of, less-rest, Loose, loose-done, loose-out}

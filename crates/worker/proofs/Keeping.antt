@@ -9,7 +9,7 @@ use lib.ListN.{length}
 use Rattle.std.proofs.shelf.Tests.{eqb-true, eqb-false, not-from-false, cond-true, cond-false, cond-both, cases-bool}
 use Rattle.streams.specs.Calls.{Call, Put, Out', Drop, Reply, No, Yes, Outs, entryOk}
 use Rattle.streams.specs.Hands.{In, Ask, Out, To, Show, Fill, Tell, Hand, Seen, told, Scene, Waits, countAt, tells, settled, Alone, stay, turn, shown, filled, notFilled}
-use Rattle.interface.specs.Ops.{Ops}
+use Rattle.book.specs.Interface.{Ops}
 use Rattle.worker.specs.Worker.{Job, Batch, some, Keep, Mind, Told, Step, keeping, waits, stays, start, forLog, keepIf, yeses, putsOf, isRest, refuses, accepts, judges, acts, telling, asking', worker}
 use Rattle.shelf.proofs.Counts.{stay-without}
 use Rattle.worker.proofs.Invariant.{none-some}

@@ -11,7 +11,8 @@ use Rattle.std.proofs.shelf.Tests.{cond-both}
 use Rattle.streams.specs.Meaning.{Event, Plan}
 use Rattle.streams.specs.Calls.{Call, Put, Out', Drop, Reply, State, entryOk}
 use Rattle.streams.specs.Hands.{Box, In, From, Shown, Filled, Ask, Beat, wantsFill, shows, says, away, here, Seen, called, isUsed, isIn, at, Scene, Open, Ready, Book, sent, tells, Goes, first, turns, asked, showsBox, fills, doesntFill, goes, comes}
-use Rattle.interface.specs.Ops.{Gives, lacks, gives, Due, nothing, alone, withPage, Next, page, reply, Page, Ops, logBox}
+use Rattle.book.specs.Ledger.{logBox}
+use Rattle.book.specs.Interface.{Gives, lacks, gives, Calls, nothing, alone, withPage, Next, page, reply, Filling, Ops}
 use Rattle.worker.specs.Worker.{Job, Batch, none, some, Phase, rest, log, put, ledger, page', written, kept, look, answer', gather, Keep, Mind, Told, Asks, none', show, fill, Step, keepIf, entries, stays, asks, keeping, hearing, looking, waits, fixed, settled', forLog, isNothing, readLedger, startCall, startBy, start, idleBy, idle, settle, fillLog, putting, onLogBy, onPutBy, write, nextLog, onLedgerBy, tookBy, gatherBy, gathers, onShown, onFilled, refuses, accepts, judges, acts, putsOf, isRest, telling, asking', turnOf, worker, lessOne}
 use Rattle.worker.specs.Laws.{Laws}
 use Rattle.shelf.specs.Moments.{Rises}
@@ -78,7 +79,7 @@ module _ (o : Ops) (logs : ℕ) where
       (λ t. cond-both (o .has (x .bytes) (m .keep .me) (m .keep .chance) (m .keep .serial)) (settle o logs m ps) (putting o logs m (m .keep) n ps x) (Up (m .asked)) (λ t. up-rest (keeping m (settled' (m .keep)))) (λ t. up-put m (m .keep) n ps x))
       (λ t. up-start m (m .keep .batch) (m .keep .waiting))
 
-  up-write : (m : Mind) (e : ℕ) (ts : List Page) (y : List ℕ) → Up (m .asked) (write o logs m e ts y)
+  up-write : (m : Mind) (e : ℕ) (ts : List Filling) (y : List ℕ) → Up (m .asked) (write o logs m e ts y)
   up-write m e [] y = up-asks m (fill 0 e y) kept
   up-write m e (t ∷ ts) y = up-asks m (fill (t .box) 0 (t .bytes)) (written e t ts y)
 
@@ -86,7 +87,7 @@ module _ (o : Ops) (logs : ℕ) where
   up-next m e y c = cond-both (ltb (m .place) logs && not (eqb (m .left) 0)) (asks m (show (logBox (m .place))) (look e y c (m .place))) (cond c (asks m (fill 0 e y) kept) (idle o logs m)) (Up (m .asked))
       (λ t. up-asks m (show (logBox (m .place))) (look e y c (m .place))) (λ t. cond-both c (asks m (fill 0 e y) kept) (idle o logs m) (Up (m .asked)) (λ t. up-asks m (fill 0 e y) kept) (λ t. up-rest m))
 
-  up-ledger : (m : Mind) (x : Box) (d : Due) → Up (m .asked) (onLedgerBy o logs m x d)
+  up-ledger : (m : Mind) (x : Box) (d : Calls) → Up (m .asked) (onLedgerBy o logs m x d)
   up-ledger m x nothing = up-next m (x .edition) (x .bytes) false
   up-ledger m x alone = up-write m (x .edition) (o .pages (x .bytes) []) (o .after (x .bytes) [])
   up-ledger m x (withPage b) = up-asks m (show b) (page' (x .edition) (x .bytes) b)

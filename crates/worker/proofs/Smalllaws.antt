@@ -1,4 +1,4 @@
--- The small book keeps Plain and Live, and answers all that there is of plans of which nothing comes out.
+-- The small book keeps Safe and Live, and answers all that there is of plans of which nothing comes out.
 use mathlib.Core.Path.{_≡_, refl, sym, ap, ap₂, subst, _∙_}
 use mathlib.Core.Logic.{_⊎_, inl, inr}
 use mathlib.Core.Bool.{Bool, true, false, _&&_, not}
@@ -11,9 +11,9 @@ use Rattle.std.proofs.shelf.Tests.{eqb-true, eq-eqb, le-leb, and-from, or-parts
 use Rattle.streams.specs.Meaning.{Event, Entry, Plan, Stage, Num, Key, Value, Count, word, mark, allInTime, cells, ended, eventsOf, throughAll, out}
 use Rattle.streams.specs.Calls.{firstOf, dropOf, parts, exprOk, every}
 use Rattle.streams.specs.Hands.{Box, at, allBytes}
-use Rattle.interface.specs.Ops.{gives, withPage, reply, Page, logBox, IsPage}
-use Rattle.interface.specs.Plain.{Plain, Now, Kept}
-use Rattle.interface.specs.Live.{Live}
+use Rattle.book.specs.Ledger.{logBox}
+use Rattle.book.specs.Interface.{gives, withPage, reply, Filling, IsPage, Safe, Now, Stays}
+use Rattle.book.specs.Live.{Live}
 use Rattle.worker.specs.Theorems.{KeepsInterface}
 use Rattle.worker.specs.Small.{smallHas, smallAdds, smallDue, smallAfter, smallPages, smallTake, smallDiffers, small, smalls, Silent, SmallWhole}
 use Rattle.shelf.proofs.Places.{at-self, at-one}
@@ -63,15 +63,15 @@ fine-led f y h fw sp = record {
 }
 
 abbrev Keeps : (ls : List (List Entry)) (f : ℕ → Box) (ls' : List (List Entry)) (f' : ℕ → Box) → Type 0
-Keeps ls f ls' f' = Kept (λ ls f x. Unit {0}) (λ ls f l x. Unit {0}) (λ ls f x. Unit {0}) Spent' ls f ls' f'
+Keeps ls f ls' f' = Stays (λ ls f x. Unit {0}) (λ ls f l x. Unit {0}) (λ ls f x. Unit {0}) Spent' ls f ls' f'
 
 keeps-other : (ls ls' : List (List Entry)) (f : ℕ → Box) (d : ℕ) (y : Box) → (d ≡ 0 → ⊥) → Keeps ls f ls' (at d y f)
-keeps-other ls ls' f d y no0 = record { led = λ x h. tt; log = λ l x h. tt; floor = λ x h. tt; spent = λ b h. subst (λ z. Spent' (z .bytes) b) (sym (other d y f 0 (λ z. no0 (sym z)))) h }
+keeps-other ls ls' f d y no0 = record { ledger = λ x h. tt; log = λ l x h. tt; floor = λ x h. tt; spent = λ b h. subst (λ z. Spent' (z .bytes) b) (sym (other d y f 0 (λ z. no0 (sym z)))) h }
 
 keeps-led : (ls : List (List Entry)) (f : ℕ → Box) (y : Box) → ((b : ℕ) → Spent' (f 0 .bytes) b → Spent' (y .bytes) b) → Keeps ls f ls (at 0 y f)
-keeps-led ls f y s = record { led = λ x h. tt; log = λ l x h. tt; floor = λ x h. tt; spent = λ b h. subst (λ z. Spent' (z .bytes) b) (sym (at-self 0 y f)) (s b h) }
+keeps-led ls f y s = record { ledger = λ x h. tt; log = λ l x h. tt; floor = λ x h. tt; spent = λ b h. subst (λ z. Spent' (z .bytes) b) (sym (at-self 0 y f)) (s b h) }
 
-one-of : (Q : Page → Type 0) (t : Page) → Q t → (a : Page) → List·Memᴰ a (t ∷ []) → Q a
+one-of : (Q : Filling → Type 0) (t : Filling) → Q t → (a : Filling) → List·Memᴰ a (t ∷ []) → Q a
 one-of Q t q a (List·Memᴰ·head e) = subst Q (sym e) q
 one-of Q t q a (List·Memᴰ·tail m) = elim m [ ]
 
@@ -83,7 +83,7 @@ due-is (suc zero ∷ l) b e = absurd (let z : _≡_ {A = ℕ} 0 1 = cc in omega 
 due-is (suc (suc zero) ∷ l) b e = let q : 5 ≡ b = cc in (sym q, sym q)
 due-is (suc (suc (suc n)) ∷ l) b e = absurd (let z : _≡_ {A = ℕ} 0 1 = cc in omega arith)
 
-pages-are : (l x : List ℕ) (a : Page) → List·Memᴰ a (smallPages l x) → IsPage (a .box) × (Spent' l (a .box) → ⊥) × Spent' (smallAfter l) (a .box)
+pages-are : (l x : List ℕ) (a : Filling) → List·Memᴰ a (smallPages l x) → IsPage (a .box) × (Spent' l (a .box) → ⊥) × Spent' (smallAfter l) (a .box)
 unfolding smallPages smallAfter
 pages-are [] x a m = elim m [ ]
 pages-are (zero ∷ l) x a m = elim m [ ]
@@ -91,7 +91,7 @@ pages-are (suc zero ∷ l) x a m = one-of (λ a. IsPage (a .box) × (⊥ → ⊥
 pages-are (suc (suc zero) ∷ l) x a m = one-of (λ a. IsPage (a .box) × (a .box ≡ 5 → ⊥) × ((a .box ≡ 5) ⊎ (a .box ≡ 6))) (record { box = 6; bytes = x }) (six, λ e. omega (arith, e), inr refl) a m
 pages-are (suc (suc (suc n)) ∷ l) x a m = elim m [ ]
 
-pages-same : (l x : List ℕ) (a b : Page) → List·Memᴰ a (smallPages l x) → List·Memᴰ b (smallPages l x) → a .bytes ≡ b .bytes
+pages-same : (l x : List ℕ) (a b : Filling) → List·Memᴰ a (smallPages l x) → List·Memᴰ b (smallPages l x) → a .bytes ≡ b .bytes
 unfolding smallPages
 pages-same [] x a b m k = elim m [ ]
 pages-same (zero ∷ l) x a b m k = elim m [ ]
@@ -99,7 +99,7 @@ pages-same (suc zero ∷ l) x a b m k = one-of (λ a. a .bytes ≡ 7 ∷ []) (re
 pages-same (suc (suc zero) ∷ l) x a b m k = one-of (λ a. a .bytes ≡ x) (record { box = 6; bytes = x }) refl a m ∙ sym (one-of (λ a. a .bytes ≡ x) (record { box = 6; bytes = x }) refl b k)
 pages-same (suc (suc (suc n)) ∷ l) x a b m k = elim m [ ]
 
-pages-few : (f : ℕ → Box) (l x : List ℕ) → Fine f → Now f (smallDue l) x → (a : Page) → List·Memᴰ a (smallPages l x) → Few (a .bytes)
+pages-few : (f : ℕ → Box) (l x : List ℕ) → Fine f → Now f (smallDue l) x → (a : Filling) → List·Memᴰ a (smallPages l x) → Few (a .bytes)
 unfolding smallPages smallDue allBytes
 pages-few f [] x h now a m = elim m [ ]
 pages-few f (zero ∷ l) x h now a m = elim m [ ]
@@ -123,7 +123,7 @@ after-spent (suc zero ∷ l) b h = absurd h
 after-spent (suc (suc zero) ∷ l) b h = inl h
 after-spent (suc (suc (suc n)) ∷ l) b h = h
 
-after-back : (f : ℕ → Box) (l x : List ℕ) → ((b : ℕ) → Spent' l b → IsPage b × (1 ≤ f b .edition)) → ((a : Page) → List·Memᴰ a (smallPages l x) → (1 ≤ f (a .box) .edition) × (f (a .box) .bytes ≡ a .bytes)) → (b : ℕ) → Spent' (smallAfter l) b → IsPage b × (1 ≤ f b .edition)
+after-back : (f : ℕ → Box) (l x : List ℕ) → ((b : ℕ) → Spent' l b → IsPage b × (1 ≤ f b .edition)) → ((a : Filling) → List·Memᴰ a (smallPages l x) → (1 ≤ f (a .box) .edition) × (f (a .box) .bytes ≡ a .bytes)) → (b : ℕ) → Spent' (smallAfter l) b → IsPage b × (1 ≤ f b .edition)
 unfolding smallAfter smallPages
 after-back f [] x h ps b s = absurd s
 after-back f (zero ∷ l) x h ps b s = absurd s
@@ -155,51 +155,53 @@ gives-are x y e = cc
 replies : (x y : List Event) → reply x ≡ reply y → x ≡ y
 replies x y e = cc
 
-pub small-plain : (p : Plan) (logs : ℕ) → logs ≤ 256 → Plain small p logs
+pub small-plain : (p : Plan) (logs : ℕ) → logs ≤ 256 → Safe small p logs
 unfolding firstOf allBytes
 small-plain p logs lg = record {
   bound = 72057594037927936 + 24 * logs + 1000;
   far = omega arith;
   Sound = λ n ls f. Fine f;
-  LedWas = λ ls f x. Unit {0};
-  LogWas = λ ls f l x. Unit {0};
+  OldLedger = λ ls f x. Unit {0};
+  OldLog = λ ls f l x. Unit {0};
   Floor = λ ls f x. Unit {0};
   Spent = Spent';
-  led-now = λ {n} {ls} {f} h. tt;
-  log-now = λ {n} {ls} {f} h l. tt;
-  floor-none = λ ls f. tt;
-  floor-raise = λ ls f fl x a b. tt;
-  starts = record { few = λ b. (omega arith, refl); spent = λ b s. absurd s };
-  later = λ {n} {ls} {f} h. h;
-  due-page = λ l b e. subst IsPage (sym (due-is l b e .0)) five;
-  pages-page = λ l x a m. pages-are l x a m .0;
-  answer-page = λ f n l got b e. absurd (let z : _≡_ {A = ℕ} 0 1 = cc in omega arith);
-  pages-one = λ l x a b m k e. pages-same l x a b m k;
-  spent-filled = λ {n} {ls} {f} h b s. h .spent b s;
-  due-spent = λ {n} {ls} {f} h b e. due-is (f 0 .bytes) b e .1;
-  pages-new = λ {n} {ls} {f} h x now a m. (pages-are (f 0 .bytes) x a m .1, let q = pages-few f (f 0 .bytes) x h now a m in fits-of (a .bytes) (q .0) (q .1));
-  answer-spent = λ {n} {ls} {f} h from most l got b u e. absurd (let z : _≡_ {A = ℕ} 0 1 = cc in omega arith);
-  has-none = small-none;
-  has-new = λ ls f n i c s l fl old bs es sm lt was tag e. let a = tag .from in let b = tag .upto in subst (λ z. smallHas z i c s ≡ true) (gives-are (smallAdds old i c s) bs e) (small-new old i c s a (tag .life) (omega (arith, b, sm, lg)));
-  has-mine = λ ls f n i c s l fl old bs es sm lt was tag e d t one h. let b = tag .upto in small-mine old i c s d t (tag .life) (omega (arith, b, sm, lg)) (subst (λ z. smallHas z i d t ≡ true) (sym (gives-are (smallAdds old i c s) bs e)) h);
-  has-other = λ ls f n i c s l fl old bs es sm lt was tag e j d t ne. ap (λ z. smallHas z j d t) (sym (gives-are (smallAdds old i c s) bs e)) ∙ small-other old i c s j d t ne;
-  put-ok = λ {n} {ls} {f} i c s l e fl bs es sm h lt fo tag ok few g. (
-    fine-other f (logBox l) (record { edition = e + 1; bytes = bs }) h (subst Few (gives-are (smallAdds (f (logBox l) .bytes) i c s) bs g) (length-adds (f (logBox l) .bytes) i c s (tag .hand) (h .few (logBox l) .0), bytes-adds (f (logBox l) .bytes) i c s (h .few (logBox l) .1))) (omega arith) (log-some l),
-    keeps-other ls _ f (logBox l) (record { edition = e + 1; bytes = bs }) (log-some l),
-  );
-  page-ok = λ {n} {ls} {f} x a sm h now m e. let pg = pages-are (f 0 .bytes) x a m .0 in
-      (fine-other f (a .box) (record { edition = 1; bytes = a .bytes }) h (pages-few f (f 0 .bytes) x h now a m) (omega arith) (pg .0), keeps-other ls ls f (a .box) (record { edition = 1; bytes = a .bytes }) (pg .0));
-  step-ok = λ {n} {ls} {f} e x sm h now ps. (
-    fine-led f (record { edition = e + 1; bytes = smallAfter (f 0 .bytes) }) h (after-few (f 0 .bytes) (h .few 0)) (after-back f (f 0 .bytes) x (h .spent) ps),
-    keeps-led ls f (record { edition = e + 1; bytes = smallAfter (f 0 .bytes) }) (after-spent (f 0 .bytes)),
-    λ a m. pages-are (f 0 .bytes) x a m .2,
-  );
-  same-ok = λ {n} {ls} {f} e h. (fine-led f (record { edition = e + 1; bytes = f 0 .bytes }) h (h .few 0) (h .spent), keeps-led ls f (record { edition = e + 1; bytes = f 0 .bytes }) (λ b s. s));
-  take-ok = λ {n} {ls} {f} e l x y sm h d lt was g. let q = gives-are (smallTake (f 0 .bytes) x) y g in (
-    fine-led f (record { edition = e + 1; bytes = y }) h (subst Few q (take-few (f 0 .bytes) x (h .few 0))) (λ b s. h .spent b (take-back (f 0 .bytes) x b (subst (λ z. Spent' z b) (sym q) s))),
-    keeps-led ls f (record { edition = e + 1; bytes = y }) (λ b s. subst (λ z. Spent' z b) q (take-spent (f 0 .bytes) x b s)),
-  );
-  answer-ok = λ {n} {ls} {f} from most l got es h was ga e. (0, omega arith, sym (replies [] es e));
+  laws = record {
+    ledger-now = λ {n} {ls} {f} h. tt;
+    log-now = λ {n} {ls} {f} h l. tt;
+    floor-none = λ ls f. tt;
+    floor-raise = λ ls f fl x a b. tt;
+    starts = record { few = λ b. (omega arith, refl); spent = λ b s. absurd s };
+    later = λ {n} {ls} {f} h. h;
+    due-page = λ l b e. subst IsPage (sym (due-is l b e .0)) five;
+    pages-page = λ l x a m. pages-are l x a m .0;
+    answer-page = λ f n l got b e. absurd (let z : _≡_ {A = ℕ} 0 1 = cc in omega arith);
+    pages-one = λ l x a b m k e. pages-same l x a b m k;
+    spent-filled = λ {n} {ls} {f} h b s. h .spent b s;
+    due-spent = λ {n} {ls} {f} h b e. due-is (f 0 .bytes) b e .1;
+    pages-new = λ {n} {ls} {f} h x now a m. (pages-are (f 0 .bytes) x a m .1, let q = pages-few f (f 0 .bytes) x h now a m in fits-of (a .bytes) (q .0) (q .1));
+    answer-spent = λ {n} {ls} {f} h from most l got b u e. absurd (let z : _≡_ {A = ℕ} 0 1 = cc in omega arith);
+    has-none = small-none;
+    has-new = λ ls f n i c s l fl old bs es sm lt was tag e. let a = tag .from in let b = tag .upto in subst (λ z. smallHas z i c s ≡ true) (gives-are (smallAdds old i c s) bs e) (small-new old i c s a (tag .life) (omega (arith, b, sm, lg)));
+    has-mine = λ ls f n i c s l fl old bs es sm lt was tag e d t one h. let b = tag .upto in small-mine old i c s d t (tag .life) (omega (arith, b, sm, lg)) (subst (λ z. smallHas z i d t ≡ true) (sym (gives-are (smallAdds old i c s) bs e)) h);
+    has-other = λ ls f n i c s l fl old bs es sm lt was tag e j d t ne. ap (λ z. smallHas z j d t) (sym (gives-are (smallAdds old i c s) bs e)) ∙ small-other old i c s j d t ne;
+    put-ok = λ {n} {ls} {f} i c s l e fl bs es sm h lt fo tag ok few g. (
+      fine-other f (logBox l) (record { edition = e + 1; bytes = bs }) h (subst Few (gives-are (smallAdds (f (logBox l) .bytes) i c s) bs g) (length-adds (f (logBox l) .bytes) i c s (tag .worker) (h .few (logBox l) .0), bytes-adds (f (logBox l) .bytes) i c s (h .few (logBox l) .1))) (omega arith) (log-some l),
+      keeps-other ls _ f (logBox l) (record { edition = e + 1; bytes = bs }) (log-some l),
+    );
+    page-ok = λ {n} {ls} {f} x a sm h now m e. let pg = pages-are (f 0 .bytes) x a m .0 in
+        (fine-other f (a .box) (record { edition = 1; bytes = a .bytes }) h (pages-few f (f 0 .bytes) x h now a m) (omega arith) (pg .0), keeps-other ls ls f (a .box) (record { edition = 1; bytes = a .bytes }) (pg .0));
+    step-ok = λ {n} {ls} {f} e x sm h now ps. (
+      fine-led f (record { edition = e + 1; bytes = smallAfter (f 0 .bytes) }) h (after-few (f 0 .bytes) (h .few 0)) (after-back f (f 0 .bytes) x (h .spent) ps),
+      keeps-led ls f (record { edition = e + 1; bytes = smallAfter (f 0 .bytes) }) (after-spent (f 0 .bytes)),
+      λ a m. pages-are (f 0 .bytes) x a m .2,
+    );
+    same-ok = λ {n} {ls} {f} e h. (fine-led f (record { edition = e + 1; bytes = f 0 .bytes }) h (h .few 0) (h .spent), keeps-led ls f (record { edition = e + 1; bytes = f 0 .bytes }) (λ b s. s));
+    take-ok = λ {n} {ls} {f} e l x y sm h d lt was g. let q = gives-are (smallTake (f 0 .bytes) x) y g in (
+      fine-led f (record { edition = e + 1; bytes = y }) h (subst Few q (take-few (f 0 .bytes) x (h .few 0))) (λ b s. h .spent b (take-back (f 0 .bytes) x b (subst (λ z. Spent' z b) (sym q) s))),
+      keeps-led ls f (record { edition = e + 1; bytes = y }) (λ b s. subst (λ z. Spent' z b) q (take-spent (f 0 .bytes) x b s)),
+    );
+    answer-ok = λ {n} {ls} {f} from most l got es h was ga e. (0, omega arith, sym (replies [] es e));
+  };
 }
 
 -- LIVE

@@ -11,10 +11,10 @@ use Rattle.std.proofs.shelf.Tests.{eqb-true, eqb-false, eq-eqb, ne-eqb, lt-ltb,
 use Rattle.streams.specs.Meaning.{Entry, Plan}
 use Rattle.streams.specs.Calls.{Call, Reply}
 use Rattle.streams.specs.Hands.{Box, wantsFill, Seen, at, Scene, allBytes}
-use Rattle.interface.specs.Ops.{Gives, lacks, gives, Due, nothing, alone, withPage, Page, Ops, logBox}
+use Rattle.book.specs.Ledger.{logBox}
+use Rattle.book.specs.Interface.{Gives, lacks, gives, Calls, nothing, alone, withPage, Filling, Ops, Safe, Now}
 use Rattle.worker.specs.Worker.{ledger, page', written, kept, look, Keep, Mind, show, fill, Step, asks, hearing, looking, isNothing, readLedger, idle, write, nextLog, onLedgerBy, tookBy, onFilled, lessOne}
-use Rattle.interface.specs.Plain.{Plain, Now}
-use Rattle.interface.specs.Live.{Live}
+use Rattle.book.specs.Live.{Live}
 use Rattle.shelf.proofs.Places.{at-self, at-one}
 use Rattle.shelf.proofs.History.{past}
 use Rattle.worker.proofs.Invariant.{fill-ok, log-some}
@@ -31,12 +31,12 @@ other b x f d ne = at-one (λ z. z ≡ f d) b x f d (λ y. absurd (ne y)) (λ y.
 twice : {A : Type 0} (b : ℕ) (x y : A) (f : ℕ → A) → at b x (at b y f) ≡ at b x f
 twice b x y f = fun-ext (λ j. elim (eqb j b) as (λ t. cond t x (cond t y (f j)) ≡ cond t x (f j)) [ true ↦ refl | false ↦ refl ])
 
-now-on : (f g : ℕ → Box) (d : Due) (x : List ℕ) → ((b : ℕ) → d ≡ withPage b → g b .bytes ≡ f b .bytes) → Now f d x → Now g d x
+now-on : (f g : ℕ → Box) (d : Calls) (x : List ℕ) → ((b : ℕ) → d ≡ withPage b → g b .bytes ≡ f b .bytes) → Now f d x → Now g d x
 now-on f g nothing x e y = y
 now-on f g alone x e y = y
 now-on f g (withPage b) x e y = e b refl ∙ y
 
-module _ (o : Ops) (p : Plan) (logs : ℕ) (P : Plain o p logs) (V : Live o p logs P) (one : 1 ≤ logs) (all i c : ℕ) (al : all ≤ 64) (lt : i < all) (es : List (Seen Call Reply)) (s : Scene Mind ℕ) where
+module _ (o : Ops) (p : Plan) (logs : ℕ) (P : Safe o p logs) (V : Live o p logs P) (one : 1 ≤ logs) (all i c : ℕ) (al : all ≤ 64) (lt : i < all) (es : List (Seen Call Reply)) (s : Scene Mind ℕ) where
   abbrev pub A : Step → (ℕ → Box) → ℕ → Type 0
   A r f n = At o logs all i c lt es s r f n
 
@@ -111,7 +111,7 @@ module _ (o : Ops) (p : Plan) (logs : ℕ) (P : Plain o p logs) (V : Live o p lo
         logs-same l = other 0 (record { edition = e + 1; bytes = y }) f (logBox l) (log-some l)
 
     -- a step's pages, and the step
-    writes : (k : ℕ) → Rec k → (ts : List Page) (m : Mind) (f : ℕ → Box) (n e : ℕ) (led x : List ℕ) → m .place < logs → e ≡ f 0 .edition → f 0 .bytes ≡ led → Now f (o .due led) x → ((a : Page) → List·Memᴰ a ts → List·Memᴰ a (o .pages led x)) →
+    writes : (k : ℕ) → Rec k → (ts : List Filling) (m : Mind) (f : ℕ → Box) (n e : ℕ) (led x : List ℕ) → m .place < logs → e ≡ f 0 .edition → f 0 .bytes ≡ led → Now f (o .due led) x → ((a : Filling) → List·Memᴰ a ts → List·Memᴰ a (o .pages led x)) →
         A (write o logs m e ts (o .after led x)) f n → m .left + V .work led f < suc k → n + 2 * length ts + 12 * (m .left + V .work led f) + 2 ≤ tot → n + 2 * length ts + 4 ≤ tot → Done (m .keep) f tot (Todo (m .left) (m .place) led f)
     writes k rec [] m f n e led x pl ed is now sub a ms bud bud2 =
         done-on (λ l. refl) (λ l u v. ⊎-elim (λ z. inl z) (λ z. inr (step-took l z)) v) (refilled k rec m f n e (o .after led x) pl a ed (omega (arith, less, ms)) (omega (arith, less, bud)))
@@ -140,7 +140,7 @@ module _ (o : Ops) (p : Plan) (logs : ℕ) (P : Plain o p logs) (V : Live o p lo
         sd = sound-at a (omega (arith, bud2, tb))
 
         pg : (t .box ≡ 0 → ⊥) × ((l : ℕ) → t .box ≡ logBox l → ⊥)
-        pg = P .pages-page led x t (sub t (List·Memᴰ·head refl))
+        pg = P .laws .pages-page led x t (sub t (List·Memᴰ·head refl))
 
         now' : Now f (o .due (f 0 .bytes)) x
         now' = subst (λ z. Now f (o .due z) x) (sym is) now
@@ -152,12 +152,12 @@ module _ (o : Ops) (p : Plan) (logs : ℕ) (P : Plain o p logs) (V : Live o p lo
         logs-same l = other (t .box) (record { edition = 1; bytes = t .bytes }) f (logBox l) (λ z. pg .1 l (sym z))
 
         Again : Type 0
-        Again = (m : Mind) (f : ℕ → Box) (n e : ℕ) (led x : List ℕ) → m .place < logs → e ≡ f 0 .edition → f 0 .bytes ≡ led → Now f (o .due led) x → ((a : Page) → List·Memᴰ a ts → List·Memᴰ a (o .pages led x)) →
+        Again = (m : Mind) (f : ℕ → Box) (n e : ℕ) (led x : List ℕ) → m .place < logs → e ≡ f 0 .edition → f 0 .bytes ≡ led → Now f (o .due led) x → ((a : Filling) → List·Memᴰ a ts → List·Memᴰ a (o .pages led x)) →
             A (write o logs m e ts (o .after led x)) f n → m .left + V .work led f < suc k → n + 2 * length ts + 12 * (m .left + V .work led f) + 2 ≤ tot → n + 2 * length ts + 4 ≤ tot → Done (m .keep) f tot (Todo (m .left) (m .place) led f)
 
         go : Again → (eqb 0 (f (t .box) .edition) ≡ true) ⊎ (eqb 0 (f (t .box) .edition) ≡ false) → Done (m .keep) f tot (Todo (m .left) (m .place) led f)
         go again (inl y) = done-on logs-same (λ l u v. ⊎-elim (λ z. inl z) (λ z. inr (subst (λ b. V .Took led l (b .bytes)) (sym (logs-same l)) z)) v)
-            (again m1 f1 (suc (suc n)) e led x pl (ed ∙ ap (λ z. z .edition) (sym e0)) (ap (λ z. z .bytes) e0 ∙ is) now1 (λ a z. sub a (List·Memᴰ·tail z)) (pour o logs all i c lt es s (t .box) 0 (t .bytes) refl ed0 (P .pages-new (sd .1) x now' t (subst (λ z. List·Memᴰ t (o .pages z x)) (sym is) (sub t (List·Memᴰ·head refl))) .1) a) (omega (arith, ms, wk)) (omega (arith, bud, wk)) (omega (arith, bud2)))
+            (again m1 f1 (suc (suc n)) e led x pl (ed ∙ ap (λ z. z .edition) (sym e0)) (ap (λ z. z .bytes) e0 ∙ is) now1 (λ a z. sub a (List·Memᴰ·tail z)) (pour o logs all i c lt es s (t .box) 0 (t .bytes) refl ed0 (P .laws .pages-new (sd .1) x now' t (subst (λ z. List·Memᴰ t (o .pages z x)) (sym is) (sub t (List·Memᴰ·head refl))) .1) a) (omega (arith, ms, wk)) (omega (arith, bud, wk)) (omega (arith, bud2)))
           where
             ed0 : 0 ≡ f (t .box) .edition
             ed0 = eqb-true 0 (f (t .box) .edition) y
@@ -167,7 +167,7 @@ module _ (o : Ops) (p : Plan) (logs : ℕ) (P : Plain o p logs) (V : Live o p lo
 
             now1 : Now f1 (o .due led) x
             now1 = now-on f f1 (o .due led) x (λ b d. ap (λ z. z .bytes) (other (t .box) (record { edition = 1; bytes = t .bytes }) f b
-                (λ z. let q = P .spent-filled (sd .1) b (P .due-spent (sd .1) b (ap (o .due) is ∙ d)) .1 in let u : f b .edition ≡ 0 = ap (λ w. f w .edition) z ∙ sym ed0 in omega (arith, q, u)))) now
+                (λ z. let q = P .laws .spent-filled (sd .1) b (P .laws .due-spent (sd .1) b (ap (o .due) is ∙ d)) .1 in let u : f b .edition ≡ 0 = ap (λ w. f w .edition) z ∙ sym ed0 in omega (arith, q, u)))) now
         go again (inr y) = again m1 f (suc (suc n)) e led x pl ed is now (λ a z. sub a (List·Memᴰ·tail z)) (miss o logs all i c lt es s (t .box) 0 (t .bytes) refl (eqb-false 0 (f (t .box) .edition) y) a) ms (omega (arith, bud)) (omega (arith, bud2))
 
     -- what is in hand, while logs are looked at: the ledger as it is, or another that is still to be filled
@@ -225,7 +225,7 @@ module _ (o : Ops) (p : Plan) (logs : ℕ) (P : Plain o p logs) (V : Live o p lo
       look-took : (x : List ℕ) → o .take y l (f (logBox l) .bytes) ≡ gives x → Took1 f n l y x
       look-took x e = record {
         ls = ls;
-        sound = subst (P .Sound n ls) (twice 0 (record { edition = f 0 .edition + 1; bytes = x }) (record { edition = f 0 .edition + 1; bytes = y }) f) (P .take-ok (f 0 .edition) l (f1 (logBox l) .bytes) x sm sd d1 ll (P .log-now sd l) (take1 (gives x) e) .0);
+        sound = subst (P .Sound n ls) (twice 0 (record { edition = f 0 .edition + 1; bytes = x }) (record { edition = f 0 .edition + 1; bytes = y }) f) (P .laws .take-ok (f 0 .edition) l (f1 (logBox l) .bytes) x sm sd d1 ll (P .laws .log-now sd l) (take1 (gives x) e) .0);
         less = λ t. subst₂ (λ a b. a < b) (V .work-led x (record { edition = f 0 .edition + 1; bytes = y }) f) (ap (λ z. V .work z f1) e0 ∙ V .work-led y (record { edition = f 0 .edition + 1; bytes = y }) f)
             (V .work-take sm sd d1 l x ll (take1 (gives x) e) (ap (λ z. o .differs z x) e0 ∙ t));
         took = λ z. subst (V .Took x l) (el l) (V .took-take sm sd d1 l x ll (take1 (gives x) e) z);
@@ -246,7 +246,7 @@ module _ (o : Ops) (p : Plan) (logs : ℕ) (P : Plain o p logs) (V : Live o p lo
     pend-full k m f n y x true less h = (omega (arith, h .0, less), omega (arith, h .1, less))
     pend-full k m f n y x false less h = (omega (arith, h .2, less), omega (arith, h .3, less))
 
-    not-nothing : (d : Due) → isNothing d ≡ true → d ≡ nothing
+    not-nothing : (d : Calls) → isNothing d ≡ true → d ≡ nothing
     not-nothing nothing e = refl
     not-nothing alone e = absurd (both-ways false refl e)
     not-nothing (withPage b) e = absurd (both-ways false refl e)
@@ -278,11 +278,11 @@ module _ (o : Ops) (p : Plan) (logs : ℕ) (P : Plain o p logs) (V : Live o p lo
         sm = let q = pend-bound k m f n y ch h .1 in omega (arith, q)
 
         by : Again → (g : Gives) → o .take y (m .place) (f (logBox (m .place)) .bytes) ≡ g → A (tookBy o logs m2 e y ch (m .place) g) f (suc (suc n)) → Done (m .keep) f tot (Todo (suc j) (m .place) y f)
-        by again lacks t a2 = absurd (look-gives f (suc (suc n)) sm ls y (P .later (P .later sd)) d (m .place) pl t)
+        by again lacks t a2 = absurd (look-gives f (suc (suc n)) sm ls y (P .laws .later (P .laws .later sd)) d (m .place) pl t)
         by again (gives x) t a2 = due-by (cases-bool (isNothing (o .due x)))
           where
             T1 : Took1 f (suc (suc n)) (m .place) y x
-            T1 = look-took f (suc (suc n)) sm ls y (P .later (P .later sd)) d (m .place) pl x t
+            T1 = look-took f (suc (suc n)) sm ls y (P .laws .later (P .laws .later sd)) d (m .place) pl x t
 
             m3 : Mind
             m3 = looking m2 (m .floor) (next (m .place)) (lessOne o logs (m .left))
@@ -317,11 +317,11 @@ module _ (o : Ops) (p : Plan) (logs : ℕ) (P : Plain o p logs) (V : Live o p lo
         sd : (ls : List (List Entry)) × P .Sound n ls f
         sd = sound-at a (omega (arith, bud, tb))
 
-        by : Rec k → (d : Due) → o .due (f 0 .bytes) ≡ d → A (onLedgerBy o logs m2 (f 0) d) f (suc (suc n)) → Done (m .keep) f tot (Todo (m .left) (m .place) (f 0 .bytes) f)
-        by rec nothing e a2 = looks k rec (m .left) m2 refl pl f (suc (suc n)) (f 0 .bytes) false a2 (sd .0) (P .same-ok (f 0 .edition) (P .later (P .later (sd .1))) .0) e (refl, (m .floor, refl), ms, omega (arith, bud))
+        by : Rec k → (d : Calls) → o .due (f 0 .bytes) ≡ d → A (onLedgerBy o logs m2 (f 0) d) f (suc (suc n)) → Done (m .keep) f tot (Todo (m .left) (m .place) (f 0 .bytes) f)
+        by rec nothing e a2 = looks k rec (m .left) m2 refl pl f (suc (suc n)) (f 0 .bytes) false a2 (sd .0) (P .laws .same-ok (f 0 .edition) (P .laws .later (P .laws .later (sd .1))) .0) e (refl, (m .floor, refl), ms, omega (arith, bud))
         by rec alone e a2 = let few = V .few-pages (f 0 .bytes) [] in
             writes k rec (o .pages (f 0 .bytes) []) m2 f (suc (suc n)) (f 0 .edition) (f 0 .bytes) [] pl refl refl (subst (λ z. Now f z []) (sym e) refl) (λ a m. m) a2 ms (omega (arith, bud, few)) (omega (arith, bud, few, ms))
-        by rec (withPage b) e a2 = let few = V .few-pages (f 0 .bytes) (f b .bytes) in let ed = P .spent-filled (sd .1) b (P .due-spent (sd .1) b e) .1 in
+        by rec (withPage b) e a2 = let few = V .few-pages (f 0 .bytes) (f b .bytes) in let ed = P .laws .spent-filled (sd .1) b (P .laws .due-spent (sd .1) b e) .1 in
             writes k rec (o .pages (f 0 .bytes) (f b .bytes)) m3 f (suc (suc (suc (suc n)))) (f 0 .edition) (f 0 .bytes) (f b .bytes) pl refl refl (subst (λ z. Now f z (f b .bytes)) (sym e) refl) (λ a m. m)
             (subst (λ z. A z f (suc (suc (suc (suc n))))) (cond-false (eqb (f b .edition) 0) (readLedger o logs m3) (write o logs m3 (f 0 .edition) (o .pages (f 0 .bytes) (f b .bytes)) (o .after (f 0 .bytes) (f b .bytes))) (ne-eqb (f b .edition) 0 (λ z. omega (arith, z, ed))))
             (see o logs all i c lt es s b refl a2)) ms (omega (arith, bud, few)) (omega (arith, bud, few, ms))

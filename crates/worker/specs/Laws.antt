@@ -1,5 +1,5 @@
 -- What the worker's proof uses of a book: facts about the past that stay true, in a world that only grows. A book that keeps
--- Plain keeps these laws (proofs/Plainlaws), so nobody else has to give them.
+-- Safe keeps these laws (proofs/Plainlaws), so nobody else has to give them.
 -- Assumes nothing.
 use mathlib.Core.Path.{_≡_}
 use mathlib.Core.Bool.{true, _&&_}
@@ -10,10 +10,12 @@ use lib.ListN.{length}
 use Rattle.streams.specs.Meaning.{Event, Entry, Plan, out}
 use Rattle.streams.specs.Calls.{entryOk, empties, dropOf, firstOf}
 use Rattle.streams.specs.Hands.{Box, at, allBytes}
-use Rattle.interface.specs.Ops.{gives, Due, nothing, alone, withPage, page, reply, Page, Ops, logBox, IsPage, Gathered, putAll, Tag}
+use Rattle.book.specs.Ledger.{logBox}
+use Rattle.book.specs.Book.{putAll}
+use Rattle.book.specs.Interface.{gives, Calls, nothing, alone, withPage, page, reply, Filling, Ops, IsPage, Gathered, Tag}
 
 -- a page that is called for is as it must be
-abbrev pub Right : (Must : ℕ → List ℕ → Type 0) → Due → (shown : List ℕ) → Type 0
+abbrev pub Right : (Must : ℕ → List ℕ → Type 0) → Calls → (shown : List ℕ) → Type 0
 Right must nothing x = ⊥
 Right must alone x = x ≡ []
 Right must (withPage b) x = must b x
@@ -44,7 +46,7 @@ pub record Laws (o : Ops) (p : Plan) (logs : ℕ) : Type 1 where
   pub floor-none : (w : World) → Floor w []
   pub floor-raise : (w : World) (x fl : List ℕ) → Was w 0 x → Floor w fl → Floor w (o .raise x fl)
   -- pages: what an old or new ledger calls for; one content; it fits
-  pub must-of : {n : ℕ} {w : World} {f : ℕ → Box} → Sound n w f → (l x : List ℕ) → Was w 0 l → Right (Must w) (o .due l) x → (a : Page) → List·Memᴰ a (o .pages l x) → Must w (a .box) (a .bytes) × IsPage (a .box)
+  pub must-of : {n : ℕ} {w : World} {f : ℕ → Box} → Sound n w f → (l x : List ℕ) → Was w 0 l → Right (Must w) (o .due l) x → (a : Filling) → List·Memᴰ a (o .pages l x) → Must w (a .box) (a .bytes) × IsPage (a .box)
   pub due-page : (w : World) (l : List ℕ) (b : ℕ) → Was w 0 l → o .due l ≡ withPage b → IsPage b
   pub answer-page : (w : World) (from most : ℕ) (l : List ℕ) (got : List Event) (b : ℕ) → Was w 0 l → o .answer from most l got ≡ page b → IsPage b
   pub must-one : {n : ℕ} {w : World} {f : ℕ → Box} → Sound n w f → (b : ℕ) (x y : List ℕ) → Must w b x → Must w b y → x ≡ y
@@ -59,7 +61,7 @@ pub record Laws (o : Ops) (p : Plan) (logs : ℕ) : Type 1 where
       (v : World) × Upto w v × Sound (suc n) v (at (logBox l) (record { edition = e + 1; bytes = bs }) f) × (logsOf v ≡ putAll l es (logsOf w))
   pub page-ok : {n : ℕ} {w : World} {f : ℕ → Box} (b : ℕ) (x : List ℕ) → n < bound → Sound n w f → IsPage b → Must w b x → f b .edition ≡ 0 →
       (v : World) × Upto w v × Sound (suc n) v (at b (record { edition = 1; bytes = x }) f) × (logsOf v ≡ logsOf w)
-  pub step-ok : {n : ℕ} {w : World} {f : ℕ → Box} (e : ℕ) (x : List ℕ) → n < bound → Sound n w f → Right (Must w) (o .due (f 0 .bytes)) x → ((a : Page) → List·Memᴰ a (o .pages (f 0 .bytes) x) → (1 ≤ f (a .box) .edition) × (f (a .box) .bytes ≡ a .bytes)) →
+  pub step-ok : {n : ℕ} {w : World} {f : ℕ → Box} (e : ℕ) (x : List ℕ) → n < bound → Sound n w f → Right (Must w) (o .due (f 0 .bytes)) x → ((a : Filling) → List·Memᴰ a (o .pages (f 0 .bytes) x) → (1 ≤ f (a .box) .edition) × (f (a .box) .bytes ≡ a .bytes)) →
       (v : World) × Upto w v × Sound (suc n) v (at 0 (record { edition = e + 1; bytes = o .after (f 0 .bytes) x }) f) × (logsOf v ≡ logsOf w)
   pub same-ok : {n : ℕ} {w : World} {f : ℕ → Box} (e : ℕ) → Sound n w f → (v : World) × Upto w v × Sound n v (at 0 (record { edition = e + 1; bytes = f 0 .bytes }) f) × (logsOf v ≡ logsOf w)
   pub take-ok : {n : ℕ} {w : World} {f : ℕ → Box} (e l : ℕ) (x y : List ℕ) → n < bound → Sound n w f → o .due (f 0 .bytes) ≡ nothing → l < logs → Was w (logBox l) x → o .take (f 0 .bytes) l x ≡ gives y →

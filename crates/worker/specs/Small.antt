@@ -1,4 +1,4 @@
--- A small book that keeps who was served, in bytes, and writes one page and a copy of it: enough to keep Plain and Live together, which shows
+-- A small book that keeps who was served, in bytes, and writes one page and a copy of it: enough to keep Safe and Live together, which shows
 -- that the interface asks for nothing that cannot be had. It keeps no events, so it answers none.
 -- Assumes nothing.
 use mathlib.Core.Path.{_≡_}
@@ -10,7 +10,7 @@ use Rattle.streams.specs.Meaning.{Entry, Plan, out}
 use Rattle.streams.specs.Calls.{core, planOk}
 use Rattle.streams.specs.Hands.{OneBook, BusyAtNine, OneIsEnough}
 use Rattle.streams.specs.Promise.{streams, Plans, Whole}
-use Rattle.interface.specs.Ops.{gives, Due, nothing, alone, withPage, reply, Page, Ops}
+use Rattle.book.specs.Interface.{gives, Calls, nothing, alone, withPage, reply, Filling, Ops}
 use Rattle.worker.specs.Worker.{workers}
 
 unfoldable pub get : ℕ → List ℕ → ℕ
@@ -39,7 +39,7 @@ smallHas x i c s = ltb 0 s && (eqb (reads 8 (16 * i) x) c && eqb (reads 8 (16 * 
 unfoldable pub smallAdds : List ℕ → (me chance serial : ℕ) → List ℕ
 smallAdds x i c s = puts 8 (16 * i) c (puts 8 (16 * i + 8) s x)
 
-unfoldable pub smallDue : List ℕ → Due
+unfoldable pub smallDue : List ℕ → Calls
 smallDue [] = nothing
 smallDue (zero ∷ l) = nothing
 smallDue (suc zero ∷ l) = alone
@@ -53,7 +53,7 @@ smallAfter (suc zero ∷ l) = 2 ∷ []
 smallAfter (suc (suc zero) ∷ l) = 3 ∷ []
 smallAfter (suc (suc (suc n)) ∷ l) = suc (suc (suc n)) ∷ l
 
-unfoldable pub smallPages : List ℕ → (shown : List ℕ) → List Page
+unfoldable pub smallPages : List ℕ → (shown : List ℕ) → List Filling
 smallPages [] x = []
 smallPages (zero ∷ l) x = []
 smallPages (suc zero ∷ l) x = record { box = 5; bytes = 7 ∷ [] } ∷ []

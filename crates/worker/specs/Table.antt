@@ -10,7 +10,7 @@ use lib.ListN.{length}
 use Rattle.streams.specs.Meaning.{Event, Entry, Ev, Still, timeOf}
 use Rattle.streams.specs.Calls.{Call, Put, Out', Drop, Reply, No, Yes, Outs}
 use Rattle.streams.specs.Hands.{Box, In, From, Shown, Filled, Ask, Beat, Out, Show, Fill, Tell, isIn}
-use Rattle.interface.specs.Ops.{Gives, lacks, gives, Due, nothing, alone, withPage, Next, page, reply, Page, Ops}
+use Rattle.book.specs.Interface.{Gives, lacks, gives, Calls, nothing, alone, withPage, Next, page, reply, Filling, Ops}
 use Rattle.worker.specs.Worker.{Job, Batch, none, some, Phase, rest, log, put, ledger, page', written, kept, look, answer', gather, Mind, worker}
 
 -- THE SLATE. A log's box: who put last, of which life, which batch, and then the times of what was put; room for four and as many more as the
@@ -36,7 +36,7 @@ slateAdds fl i c s x es = cond (leb (length (afterTag x) + length es) (4 + lengt
 
 -- A ledger that begins with 1 is to write two pages, with 2 to copy a page; a log that has anything gets a number of its own into the ledger, one
 -- that begins with 50 makes a step due, and one that begins with 99 shows the ledger to be old.
-unfoldable pub slateDue : List ℕ → Due
+unfoldable pub slateDue : List ℕ → Calls
 slateDue [] = nothing
 slateDue (a ∷ l) = cond (eqb a 1) alone (cond (eqb a 2) (withPage 5) nothing)
 
@@ -44,10 +44,10 @@ unfoldable pub slateAfter : (ledger shown : List ℕ) → List ℕ
 slateAfter [] x = []
 slateAfter (a ∷ l) x = cond (eqb a 1) (2 ∷ l) (cond (eqb a 2) (3 ∷ x ++ l) (a ∷ l))
 
-abbrev pub leaf : ℕ → List ℕ → Page
+abbrev pub leaf : ℕ → List ℕ → Filling
 leaf b x = record { box = b; bytes = x }
 
-unfoldable pub slatePages : (ledger shown : List ℕ) → List Page
+unfoldable pub slatePages : (ledger shown : List ℕ) → List Filling
 slatePages [] x = []
 slatePages (a ∷ l) x = cond (eqb a 1) (leaf 5 (7 ∷ []) ∷ leaf 9 (8 ∷ []) ∷ []) (cond (eqb a 2) (leaf 6 x ∷ []) [])
 

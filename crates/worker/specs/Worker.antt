@@ -11,7 +11,8 @@ use Rattle.streams.specs.Meaning.{Event, Entry, Plan}
 use Rattle.streams.specs.Calls.{Call, Put, Out', Drop, Reply, No, Yes, Outs, entryOk}
 use Rattle.streams.specs.Hands.{Box, In, From, Shown, Filled, Ask, Beat, Out, Show, Fill, Tell, Hand}
 use Rattle.streams.specs.Promise.{Code}
-use Rattle.interface.specs.Ops.{Gives, lacks, gives, Due, nothing, alone, withPage, Next, page, reply, Page, Ops, logBox}
+use Rattle.book.specs.Ledger.{logBox}
+use Rattle.book.specs.Interface.{Gives, lacks, gives, Calls, nothing, alone, withPage, Next, page, reply, Filling, Ops}
 
 -- a call that waits here
 pub record Job : Type 0 where
@@ -34,7 +35,7 @@ pub data Phase : Type 0 where
   -- the ledger that are to be filled after it; that the ledger was filled
   ledger : Phase
   page' : (edition : ℕ) → (led : List ℕ) → (box : ℕ) → Phase
-  written : (edition : ℕ) → Page → List Page → (led : List ℕ) → Phase
+  written : (edition : ℕ) → Filling → List Filling → (led : List ℕ) → Phase
   kept : Phase
   -- a log's box, to take it into the ledger, which was changed by other logs or not
   look : (edition : ℕ) → (led : List ℕ) → (changed : Bool) → (log : ℕ) → Phase
@@ -144,7 +145,7 @@ isRest (look e x c l) = false
 isRest (answer' k f n) = false
 isRest (gather k f n x g b) = false
 
-abbrev pub isNothing : Due → Bool
+abbrev pub isNothing : Calls → Bool
 isNothing nothing = true
 isNothing alone = false
 isNothing (withPage b) = false
@@ -204,7 +205,7 @@ module _ (o : Ops) (logs : ℕ) where
   onPutBy m d (some l ps) = cond d (settle m ps) (start m)
 
   -- THE LEDGER: the pages that a step writes, one after the other, and then the ledger
-  abbrev pub write : Mind → (edition : ℕ) → List Page → (led : List ℕ) → Step
+  abbrev pub write : Mind → (edition : ℕ) → List Filling → (led : List ℕ) → Step
   write m e [] x = asks m (fill 0 e x) kept
   write m e (t ∷ ts) x = asks m (fill (t .box) 0 (t .bytes)) (written e t ts x)
 
@@ -213,7 +214,7 @@ module _ (o : Ops) (logs : ℕ) where
   nextLog m e x c = cond (ltb (m .place) logs && not (eqb (m .left) 0)) (asks m (show (logBox (m .place))) (look e x c (m .place))) (cond c (asks m (fill 0 e x) kept) (idle m))
 
   -- what is due first
-  abbrev pub onLedgerBy : Mind → Box → Due → Step
+  abbrev pub onLedgerBy : Mind → Box → Calls → Step
   onLedgerBy m x nothing = nextLog m (x .edition) (x .bytes) false
   onLedgerBy m x alone = write m (x .edition) (o .pages (x .bytes) []) (o .after (x .bytes) [])
   onLedgerBy m x (withPage b) = asks m (show b) (page' (x .edition) (x .bytes) b)

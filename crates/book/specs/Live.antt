@@ -10,10 +10,10 @@ use lib.ListN.{length}
 use Rattle.streams.specs.Meaning.{Event, Entry, Plan, out}
 use Rattle.streams.specs.Calls.{dropOf, firstOf}
 use Rattle.streams.specs.Hands.{Box, at, allBytes}
-use Rattle.interface.specs.Ops.{lacks, gives, nothing, page, reply, Page, Ops, logBox, Gathered}
-use Rattle.interface.specs.Plain.{Plain, Now}
+use Rattle.book.specs.Ledger.{logBox}
+use Rattle.book.specs.Interface.{lacks, gives, nothing, page, reply, Filling, Ops, Gathered, Safe, Now}
 
-pub record Live (o : Ops) (p : Plan) (logs : ℕ) (P : Plain o p logs) : Type 1 where
+pub record Live (o : Ops) (p : Plan) (logs : ℕ) (P : Safe o p logs) : Type 1 where
   -- how much there is left to do for a ledger, the other boxes being as they are; what a batch may add; how many pages an answer may show
   pub work : (ledger : List ℕ) → (ℕ → Box) → ℕ
   pub heavy : ℕ
@@ -28,7 +28,7 @@ pub record Live (o : Ops) (p : Plan) (logs : ℕ) (P : Plain o p logs) : Type 1 
   -- steps that are due
   pub few-pages : (l x : List ℕ) → length (o .pages l x) ≤ 2
   pub work-led : (x : List ℕ) (b : Box) (f : ℕ → Box) → work x (at 0 b f) ≡ work x f
-  pub work-page : {n : ℕ} {ls : List (List Entry)} {f : ℕ → Box} → n < P .bound → P .Sound n ls f → (x : List ℕ) → Now f (o .due (f 0 .bytes)) x → (a : Page) → List·Memᴰ a (o .pages (f 0 .bytes) x) → f (a .box) .edition ≡ 0 →
+  pub work-page : {n : ℕ} {ls : List (List Entry)} {f : ℕ → Box} → n < P .bound → P .Sound n ls f → (x : List ℕ) → Now f (o .due (f 0 .bytes)) x → (a : Filling) → List·Memᴰ a (o .pages (f 0 .bytes) x) → f (a .box) .edition ≡ 0 →
       work (f 0 .bytes) (at (a .box) (record { edition = 1; bytes = a .bytes }) f) ≤ work (f 0 .bytes) f
   pub work-step : {n k : ℕ} {ls ms : List (List Entry)} {f : ℕ → Box} (e : ℕ) → n < P .bound → k < P .bound → P .Sound n ls f → (x : List ℕ) → Now f (o .due (f 0 .bytes)) x → P .Sound k ms (at 0 (record { edition = e; bytes = o .after (f 0 .bytes) x }) f) →
       work (o .after (f 0 .bytes) x) f < work (f 0 .bytes) f
@@ -50,7 +50,7 @@ pub record Live (o : Ops) (p : Plan) (logs : ℕ) (P : Plain o p logs) : Type 1 
   pub left-less : {n : ℕ} {ls : List (List Entry)} {f : ℕ → Box} → n < P .bound → P .Sound n ls f → (from most b : ℕ) (got : List Event) → o .answer from most (f 0 .bytes) got ≡ page b → left from most (f 0 .bytes) (o .more from most (f 0 .bytes) got (f b .bytes)) < left from most (f 0 .bytes) got
 
 -- once nothing is due and all is taken, an answer gives all that there is
-abbrev pub AnswersAll : (o : Ops) (p : Plan) (logs : ℕ) (P : Plain o p logs) → Live o p logs P → Type 0
+abbrev pub AnswersAll : (o : Ops) (p : Plan) (logs : ℕ) (P : Safe o p logs) → Live o p logs P → Type 0
 AnswersAll o p logs P V =
     (n : ℕ) (ls : List (List Entry)) (f : ℕ → Box) → n < P .bound → P .Sound n ls f → o .due (f 0 .bytes) ≡ nothing → ((l : ℕ) → l < logs → V .Took (f 0 .bytes) l (f (logBox l) .bytes)) → (from most : ℕ) (got es : List Event) → most ≤ 1024 →
     Gathered o (λ b x. P .Spent (f 0 .bytes) b × (f b .bytes ≡ x)) from most (f 0 .bytes) got → o .answer from most (f 0 .bytes) got ≡ reply es → es ≡ firstOf most (dropOf from (out p ls))

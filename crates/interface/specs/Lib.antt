@@ -1,3 +1,0 @@
-pub mod Ops
-pub mod Plain
-pub mod Live
