@@ -6,6 +6,7 @@ use calls::kinds::Call;
 use calls::kinds::Refusal;
 use calls::refusals::number;
 use calls::refusals::refusal;
+use grammar::refusals::Refusal as TextRefusal;
 use grammar::refusals::WhyDisplay;
 use keeper::Keeper;
 use plans::entries::Entry;
@@ -22,6 +23,8 @@ use std::env;
 use std::fs;
 use std::io;
 use std::io::Read;
+use std::str::from_utf8;
+use text::places::locate;
 use text::reader::read;
 use tokens::faults::Fault;
 use windows::stages::Fault as Unworked;
@@ -148,6 +151,7 @@ impl Play {
         match parse(line) {
             Ok(Command::Nothing) => {}
             Ok(Command::Plan { at: from }) => self.plan(rt, at, line, from)?,
+            Ok(Command::PlanFile { at: from }) => self.plan_file(rt, at, line, from)?,
             Ok(Command::Logs { count }) => self.logs(rt, at, count)?,
             Ok(Command::Put { log, entry }) => self.put(rt, at, log, entry)?,
             Ok(Command::All) => self.all(rt)?,
@@ -160,24 +164,60 @@ impl Play {
 
     // plan TEXT
     fn plan(&mut self, rt: &LibcRuntime, at: u64, line: &[u8], from: usize) -> Result<(), Stop> {
+        let text = &line[from.min(line.len())..];
+        if let Some(refusal) = self.begin(rt, at, text)? {
+            let column = refusal.at.saturating_add(from).saturating_add(1);
+            let why = refusal.why;
+            println!(rt, "line {at}, column {column}: {why}")?;
+        }
+        Ok(())
+    }
+
+    // plan-file NAME
+    fn plan_file(
+        &mut self,
+        rt: &LibcRuntime,
+        at: u64,
+        line: &[u8],
+        from: usize,
+    ) -> Result<(), Stop> {
+        let name = line[from.min(line.len())..].trim_ascii();
+        let Ok(name) = from_utf8(name) else {
+            println!(rt, "line {at}: the plan's file cannot be read")?;
+            return Ok(());
+        };
+        let Ok(text) = fs::read(rt, name) else {
+            println!(rt, "line {at}: the plan's file cannot be read")?;
+            return Ok(());
+        };
+        if let Some(refusal) = self.begin(rt, at, text.as_slice())? {
+            let place = locate(text.as_slice(), refusal.at);
+            let (row, column, why) = (place.line, place.column, refusal.why);
+            println!(rt, "line {at}: {name}, line {row}, column {column}: {why}")?;
+        }
+        Ok(())
+    }
+
+    // Begins anew with the plan that the text is; what it is refused for is handed back, and changes nothing.
+    fn begin(
+        &mut self,
+        rt: &LibcRuntime,
+        at: u64,
+        text: &[u8],
+    ) -> Result<Option<TextRefusal>, Stop> {
         if self.called {
             println!(rt, "line {at}: a plan comes before the first call")?;
-            return Ok(());
+            return Ok(None);
         }
-        let text = &line[from.min(line.len())..];
         match read(rt.alloc(), text) {
             Ok(plan) => {
                 self.keeper = Keeper::begin(rt.alloc(), plan, self.logs)?;
                 self.text = Vec::from_slice(rt.alloc(), text)?;
+                Ok(None)
             }
-            Err(Fault::Memory) => return Err(Stop::Memory),
-            Err(Fault::Refused(refusal)) => {
-                let column = refusal.at.saturating_add(from).saturating_add(1);
-                let why = refusal.why;
-                println!(rt, "line {at}, column {column}: {why}")?;
-            }
+            Err(Fault::Memory) => Err(Stop::Memory),
+            Err(Fault::Refused(refusal)) => Ok(Some(refusal)),
         }
-        Ok(())
     }
 
     // logs N

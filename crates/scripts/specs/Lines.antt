@@ -11,7 +11,7 @@ use Rattle.std.specs.declared.result.Result.the-variants.{Ok, Err}
 use Rattle.plans.specs.declared.entries.Entry.the-variants as entry
 use Rattle.grammar.specs.Reading.{Got, got, bad, skip, is, isEnd, isWord, number}
 use Rattle.scripts.specs.declared.commands.Command.{Command}
-use Rattle.scripts.specs.declared.commands.Command.the-variants.{Nothing, Plan, Logs, Put, All, Out, Drop}
+use Rattle.scripts.specs.declared.commands.Command.the-variants.{Nothing, Plan, PlanFile, Logs, Put, All, Out, Drop}
 use Rattle.scripts.specs.declared.commands.Field.{Field}
 use Rattle.scripts.specs.declared.commands.Field.the-variants.{Count, Log, Time, Key, Value, From, Most, Before}
 use Rattle.scripts.specs.declared.commands.Complaint.{Complaint}
@@ -58,8 +58,9 @@ dropLine bs = then' (fieldAt Before bs) (λ n end. aloneAt (Drop n) end)
 -- with the place at which the bytes stand in the line
 unfoldable pub rarerLine : (at : ℕ) → List ℕ → Says
 rarerLine at bs =
-    cond (isWord (codes "plan") bs) (Ok (Plan (at + 4)))
-    (cond (isWord (codes "logs") bs) (logsLine (drop 4 bs)) (cond (isWord (codes "drop") bs) (dropLine (drop 4 bs)) (Err Unknown)))
+    cond (isWord (codes "plan-file") bs) (Ok (PlanFile (at + 9)))
+    (cond (isWord (codes "plan") bs) (Ok (Plan (at + 4)))
+    (cond (isWord (codes "logs") bs) (logsLine (drop 4 bs)) (cond (isWord (codes "drop") bs) (dropLine (drop 4 bs)) (Err Unknown))))
 
 unfoldable pub wordLine : (at : ℕ) → List ℕ → Says
 wordLine at bs =

@@ -10,6 +10,8 @@ pub enum Command {
     Nothing,
     // The plan whose text stands from this place of the line on.
     Plan { at: usize },
+    // The plan in the file whose name stands from this place of the line on.
+    PlanFile { at: usize },
     // How many logs there are.
     Logs { count: u64 },
     // An entry put into a log.

@@ -141,7 +141,9 @@ fn rarer(line: &[u8], at: usize) -> Result<Command, Complaint>
     requires { ⌜ at ≤ length (now line) ⌝ }
     ensures { λ r. ⌜ r ≡ rarerLine at (drop at (now (line .entry))) ⌝ }
 {
-    if is_word(line, at, b"plan") {
+    if is_word(line, at, b"plan-file") {
+        Ok(Command::PlanFile { at: at + 9 })
+    } else if is_word(line, at, b"plan") {
         Ok(Command::Plan { at: at + 4 })
     } else if is_word(line, at, b"logs") {
         logs(line, at + 4)
