@@ -15,10 +15,11 @@ use Rattle.interface.specs.Ops.{gives, withPage, reply, Page, logBox, IsPage}
 use Rattle.interface.specs.Plain.{Plain, Now, Kept}
 use Rattle.interface.specs.Live.{Live}
 use Rattle.worker.specs.Theorems.{KeepsInterface}
-use Rattle.worker.specs.Small.{smallHas, smallAdds, smallDue, smallAfter, smallPages, smallTake, smallDiffers, small, smalls, Silent, SmallWhole}
+use Rattle.worker.specs.Small.{smallHas, smallAdds, smallDue, smallAfter, smallPages, smallTake, smallDiffers, small, smalls, SmallWithin, Silent, SmallWhole}
 use Rattle.shelf.proofs.Places.{at-self, at-one}
 use Rattle.worker.proofs.Invariant.{log-some}
 use Rattle.worker.proofs.Smallbytes.{length-adds, bytes-adds, small-none, small-new, small-mine, small-other}
+use Rattle.worker.proofs.Comesout.{worker-within}
 use Rattle.worker.proofs.Together.{worker-whole}
 
 abbrev Fits : List ℕ → Type 0
@@ -304,6 +305,11 @@ no-cells (e ∷ es) = no-cells es
 silent : (ls : List (List Entry)) → out (record { late = 0; stages = deaf ∷ [] }) ls ≡ []
 unfolding throughAll ended eventsOf
 silent ls = ap (λ z. eventsOf (ended (mark 0 ls) z)) (no-cells (allInTime 0 ls))
+
+pub small-within : SmallWithin
+unfolding small-live
+small-within p logs one lg all n al sm es s g i c m lt e = let r = worker-within small p logs (small-plain p logs lg) (small-live p logs lg) one all n al sm es s g i c m lt e in
+    (r .0, r .1, r .2, r .3, r .4, (let q = r .5 in let w = work-most (s .box 0 .bytes) in omega (arith, q, w)), r .6)
 
 -- the small book keeps the interface
 pub small-keeps : KeepsInterface Silent smalls
