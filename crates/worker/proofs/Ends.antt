@@ -20,7 +20,8 @@ use Rattle.worker.proofs.Invariant.{log-some, CallOk}
 use Rattle.worker.proofs.Onebook.{inv}
 use Rattle.worker.proofs.Plainlaws.{plain-laws}
 use Rattle.worker.proofs.Alone.{At, see, mid-turn}
-use Rattle.worker.proofs.Tending.{sound-at, fit-of, pours, other, next, ahead, ledger-done}
+use Rattle.worker.proofs.Tending.{sound-at, fit-of, pours, next, ahead, ledger-done}
+use Rattle.shelf.proofs.Places.{at-other}
 
 diff : (a b : ℕ) → a ≤ b → (d : ℕ) × (b ≡ a + d)
 diff zero b le = (b, omega arith)
@@ -102,7 +103,7 @@ module _ (o : Ops) (p : Plan) (logs : ℕ) (P : Plain o p logs) (V : Live o p lo
           f1 = at (logBox l) (record { edition = f (logBox l) .edition + 1; bytes = bs }) f
 
           w1 : W0 f1 ≡ V .work (f 0 .bytes) f1
-          w1 = ap (λ z. V .work (z .bytes) f1) (other (logBox l) (record { edition = f (logBox l) .edition + 1; bytes = bs }) f 0 (λ z. log-some l (sym z)))
+          w1 = ap (λ z. V .work (z .bytes) f1) (at-other (logBox l) (record { edition = f (logBox l) .edition + 1; bytes = bs }) f 0 (λ z. log-some l (sym z)))
 
           wk : V .work (f 0 .bytes) f1 ≤ W0 f + V .heavy
           wk = V .work-put (f (logBox l) .edition + 1) (omega (arith, bud, tb)) (omega (arith, bud, tb)) (snd a (omega (arith, bud, tb)) .1) (k .me) (k .chance) (k .serial) l (m .floor) bs (entries ps) ll few e

@@ -13,14 +13,9 @@ use Rattle.streams.specs.Hands.{Box, at, allBytes}
 use Rattle.interface.specs.Ops.{gives, Due, nothing, alone, withPage, Page, Ops, logBox, putAll, IsPage, Gathered, noPage, onePage, Tag}
 use Rattle.worker.specs.Laws.{Right, Laws}
 use Rattle.interface.specs.Plain.{Plain, Now, Kept}
-use Rattle.shelf.proofs.Places.{at-self, at-one}
+use Rattle.shelf.proofs.Places.{at-self, at-one, at-other}
 use Rattle.worker.proofs.Invariant.{log-some}
-
-other : {A : Type 0} (b : ℕ) (x : A) (f : ℕ → A) (d : ℕ) → (d ≡ b → ⊥) → at b x f d ≡ f d
-other b x f d ne = at-one (λ z. z ≡ f d) b x f d (λ y. absurd (ne y)) (λ y. refl)
-
-abbrev Fits : List ℕ → Type 0
-Fits x = T (leb (length x) 1048576 && allBytes x)
+use Rattle.shelf.proofs.Scripts.{Fits}
 
 module _ (o : Ops) (p : Plan) (logs : ℕ) (P : Plain o p logs) where
   pub record W : Type 0 where
@@ -122,19 +117,19 @@ module _ (o : Ops) (p : Plan) (logs : ℕ) (P : Plain o p logs) where
   module _ {n : ℕ} (w : W) (s : P .Sound n (w .ls) (w .f)) where
     -- a box that is not the ledger
     called-on : (d : ℕ) (y : Box) (ls : List (List Entry)) → (d ≡ 0 → ⊥) → ((b : ℕ) → P .Spent (led w) b → b ≡ d → ⊥) → (b : ℕ) (x : List ℕ) → Called w b x → Called (record { ls = ls; f = at d y (w .f) }) b x
-    called-on d y ls no0 nosp b x c = let e0 : at d y (w .f) 0 ≡ w .f 0 = other d y (w .f) 0 (λ z. no0 (sym z)) in (
+    called-on d y ls no0 nosp b x c = let e0 : at d y (w .f) 0 ≡ w .f 0 = at-other d y (w .f) 0 (λ z. no0 (sym z)) in (
       c .0,
-      subst (λ z. Now (at d y (w .f)) (o .due (z .bytes)) (c .0)) (sym e0) (now-on (w .f) (at d y (w .f)) (o .due (led w)) (c .0) (λ b e. ap (λ z. z .bytes) (other d y (w .f) b (nosp b (P .due-spent s b e)))) (c .1)),
+      subst (λ z. Now (at d y (w .f)) (o .due (z .bytes)) (c .0)) (sym e0) (now-on (w .f) (at d y (w .f)) (o .due (led w)) (c .0) (λ b e. ap (λ z. z .bytes) (at-other d y (w .f) b (nosp b (P .due-spent s b e)))) (c .1)),
       subst (λ z. List·Memᴰ (record { box = b; bytes = x }) (o .pages (z .bytes) (c .0))) (sym e0) (c .2),
     )
 
     plain-up : (d : ℕ) (y : Box) (ls : List (List Entry)) → (d ≡ 0 → ⊥) → Kept' w (record { ls = ls; f = at d y (w .f) }) → ((b : ℕ) → IsPage b → 1 ≤ w .f b .edition → b ≡ d → ⊥) → Up' w (record { ls = ls; f = at d y (w .f) })
     plain-up d y ls no0 kp np = ups w (record { ls = ls; f = at d y (w .f) }) s kp
-        (λ b pg one. other d y (w .f) b (np b pg one)) (λ b x c. inr (called-on d y ls no0 (λ b sp. let z = P .spent-filled s b sp in np b (z .0) (z .1)) b x c))
+        (λ b pg one. at-other d y (w .f) b (np b pg one)) (λ b x c. inr (called-on d y ls no0 (λ b sp. let z = P .spent-filled s b sp in np b (z .0) (z .1)) b x c))
 
     -- the ledger
     led-fill-up : (y : Box) → Kept' w (record { ls = w .ls; f = at 0 y (w .f) }) → ((b : ℕ) (x : List ℕ) → Called w b x → SpentAs (record { ls = w .ls; f = at 0 y (w .f) }) b x ⊎ Called (record { ls = w .ls; f = at 0 y (w .f) }) b x) → Up' w (record { ls = w .ls; f = at 0 y (w .f) })
-    led-fill-up y kp called = ups w (record { ls = w .ls; f = at 0 y (w .f) }) s kp (λ b pg one. other 0 y (w .f) b (pg .0)) called
+    led-fill-up y kp called = ups w (record { ls = w .ls; f = at 0 y (w .f) }) s kp (λ b pg one. at-other 0 y (w .f) b (pg .0)) called
 
     pub put' : (i c t l e : ℕ) (fl bs : List ℕ) (es : List Entry) → n < P .bound → l < logs → Floor' w fl → Tag n i c t → ((x : Entry) → List·Memᴰ x es → T (entryOk x)) → length es ≤ 8 → o .adds fl i c t l (w .f (logBox l) .bytes) es ≡ gives bs →
         Ends (suc n) w (at (logBox l) (record { edition = e + 1; bytes = bs }) (w .f)) (putAll l es (w .ls))
@@ -170,7 +165,7 @@ module _ (o : Ops) (p : Plan) (logs : ℕ) (P : Plain o p logs) where
         spent : (b : ℕ) (z : List ℕ) → Called w b z → SpentAs (record { ls = w .ls; f = at 0 y (w .f) }) b z
         spent b z c =
             let m : List·Memᴰ (record { box = b; bytes = z }) (o .pages (led w) x) = subst (λ u. List·Memᴰ (record { box = b; bytes = z }) (o .pages (led w) u)) (now-one (w .f) (o .due (led w)) (c .0) x (c .1) now) (c .2) in
-            let q = ps (record { box = b; bytes = z }) m in let pg = P .pages-page (led w) x (record { box = b; bytes = z }) m in let t : at 0 y (w .f) b ≡ w .f b = other 0 y (w .f) b (pg .0) in
+            let q = ps (record { box = b; bytes = z }) m in let pg = P .pages-page (led w) x (record { box = b; bytes = z }) m in let t : at 0 y (w .f) b ≡ w .f b = at-other 0 y (w .f) b (pg .0) in
             (subst (λ u. P .Spent (u .bytes) b) (sym (at-self 0 y (w .f))) (k .2 (record { box = b; bytes = z }) m), subst (λ u. 1 ≤ u .edition) (sym t) (q .0), ap (λ u. u .bytes) t ∙ q .1)
 
     pub same' : (e : ℕ) → Ends n w (at 0 (record { edition = e + 1; bytes = led w }) (w .f)) (w .ls)
@@ -183,7 +178,7 @@ module _ (o : Ops) (p : Plan) (logs : ℕ) (P : Plain o p logs) where
         again b x c = let e0 : at 0 y (w .f) 0 .bytes ≡ led w = ap (λ z. z .bytes) (at-self 0 y (w .f)) in
             inr (
               c .0,
-              subst (λ z. Now (at 0 y (w .f)) (o .due z) (c .0)) (sym e0) (now-on (w .f) (at 0 y (w .f)) (o .due (led w)) (c .0) (λ t g. ap (λ z. z .bytes) (other 0 y (w .f) t (P .due-page (led w) t g .0))) (c .1)),
+              subst (λ z. Now (at 0 y (w .f)) (o .due z) (c .0)) (sym e0) (now-on (w .f) (at 0 y (w .f)) (o .due (led w)) (c .0) (λ t g. ap (λ z. z .bytes) (at-other 0 y (w .f) t (P .due-page (led w) t g .0))) (c .1)),
               subst (λ z. List·Memᴰ (record { box = b; bytes = x }) (o .pages z (c .0))) (sym e0) (c .2),
             )
 

@@ -15,18 +15,13 @@ use Rattle.interface.specs.Ops.{Gives, lacks, gives, Due, nothing, alone, withP
 use Rattle.worker.specs.Worker.{ledger, page', written, kept, look, Keep, Mind, show, fill, Step, asks, hearing, looking, isNothing, readLedger, idle, write, nextLog, onLedgerBy, tookBy, onFilled, lessOne}
 use Rattle.interface.specs.Plain.{Plain, Now}
 use Rattle.interface.specs.Live.{Live}
-use Rattle.shelf.proofs.Places.{at-self, at-one}
+use Rattle.shelf.proofs.Places.{at-self, at-one, at-other}
 use Rattle.shelf.proofs.History.{past}
 use Rattle.worker.proofs.Invariant.{fill-ok, log-some}
 use Rattle.worker.proofs.Onebook.{inv, viewOf}
 use Rattle.worker.proofs.Plainlaws.{plain-laws}
 use Rattle.worker.proofs.Alone.{At, mid-in, Wanted, see, pour, miss}
-
-abbrev Fits : List ℕ → Type 0
-Fits x = T (leb (length x) 1048576 && allBytes x)
-
-pub other : {A : Type 0} (b : ℕ) (x : A) (f : ℕ → A) (d : ℕ) → (d ≡ b → ⊥) → at b x f d ≡ f d
-other b x f d ne = at-one (λ z. z ≡ f d) b x f d (λ y. absurd (ne y)) (λ y. refl)
+use Rattle.shelf.proofs.Scripts.{Fits}
 
 twice : {A : Type 0} (b : ℕ) (x y : A) (f : ℕ → A) → at b x (at b y f) ≡ at b x f
 twice b x y f = fun-ext (λ j. elim (eqb j b) as (λ t. cond t x (cond t y (f j)) ≡ cond t x (f j)) [ true ↦ refl | false ↦ refl ])
@@ -108,7 +103,7 @@ module _ (o : Ops) (p : Plan) (logs : ℕ) (P : Plain o p logs) (V : Live o p lo
         w1 = ap (λ z. V .work z f1) e0 ∙ V .work-led y (record { edition = e + 1; bytes = y }) f
 
         logs-same : (l : ℕ) → f1 (logBox l) ≡ f (logBox l)
-        logs-same l = other 0 (record { edition = e + 1; bytes = y }) f (logBox l) (log-some l)
+        logs-same l = at-other 0 (record { edition = e + 1; bytes = y }) f (logBox l) (log-some l)
 
     -- a step's pages, and the step
     writes : (k : ℕ) → Rec k → (ts : List Page) (m : Mind) (f : ℕ → Box) (n e : ℕ) (led x : List ℕ) → m .place < logs → e ≡ f 0 .edition → f 0 .bytes ≡ led → Now f (o .due led) x → ((a : Page) → List·Memᴰ a ts → List·Memᴰ a (o .pages led x)) →
@@ -146,10 +141,10 @@ module _ (o : Ops) (p : Plan) (logs : ℕ) (P : Plain o p logs) (V : Live o p lo
         now' = subst (λ z. Now f (o .due z) x) (sym is) now
 
         e0 : f1 0 ≡ f 0
-        e0 = other (t .box) (record { edition = 1; bytes = t .bytes }) f 0 (λ z. pg .0 (sym z))
+        e0 = at-other (t .box) (record { edition = 1; bytes = t .bytes }) f 0 (λ z. pg .0 (sym z))
 
         logs-same : (l : ℕ) → f1 (logBox l) ≡ f (logBox l)
-        logs-same l = other (t .box) (record { edition = 1; bytes = t .bytes }) f (logBox l) (λ z. pg .1 l (sym z))
+        logs-same l = at-other (t .box) (record { edition = 1; bytes = t .bytes }) f (logBox l) (λ z. pg .1 l (sym z))
 
         Again : Type 0
         Again = (m : Mind) (f : ℕ → Box) (n e : ℕ) (led x : List ℕ) → m .place < logs → e ≡ f 0 .edition → f 0 .bytes ≡ led → Now f (o .due led) x → ((a : Page) → List·Memᴰ a ts → List·Memᴰ a (o .pages led x)) →
@@ -166,7 +161,7 @@ module _ (o : Ops) (p : Plan) (logs : ℕ) (P : Plain o p logs) (V : Live o p lo
             wk = subst (λ z. V .work z f1 ≤ V .work z f) is (V .work-page (omega (arith, bud2, tb)) (sd .1) x now' t (subst (λ z. List·Memᴰ t (o .pages z x)) (sym is) (sub t (List·Memᴰ·head refl))) (sym ed0))
 
             now1 : Now f1 (o .due led) x
-            now1 = now-on f f1 (o .due led) x (λ b d. ap (λ z. z .bytes) (other (t .box) (record { edition = 1; bytes = t .bytes }) f b
+            now1 = now-on f f1 (o .due led) x (λ b d. ap (λ z. z .bytes) (at-other (t .box) (record { edition = 1; bytes = t .bytes }) f b
                 (λ z. let q = P .spent-filled (sd .1) b (P .due-spent (sd .1) b (ap (o .due) is ∙ d)) .1 in let u : f b .edition ≡ 0 = ap (λ w. f w .edition) z ∙ sym ed0 in omega (arith, q, u)))) now
         go again (inr y) = again m1 f (suc (suc n)) e led x pl ed is now (λ a z. sub a (List·Memᴰ·tail z)) (miss o logs all i c lt es s (t .box) 0 (t .bytes) refl (eqb-false 0 (f (t .box) .edition) y) a) ms (omega (arith, bud)) (omega (arith, bud2))
 
@@ -211,7 +206,7 @@ module _ (o : Ops) (p : Plan) (logs : ℕ) (P : Plain o p logs) (V : Live o p lo
       e0 = ap (λ z. z .bytes) (at-self 0 (record { edition = f 0 .edition + 1; bytes = y }) f)
 
       el : (k : ℕ) → f1 (logBox k) .bytes ≡ f (logBox k) .bytes
-      el k = ap (λ z. z .bytes) (other 0 (record { edition = f 0 .edition + 1; bytes = y }) f (logBox k) (log-some k))
+      el k = ap (λ z. z .bytes) (at-other 0 (record { edition = f 0 .edition + 1; bytes = y }) f (logBox k) (log-some k))
 
       d1 : o .due (f1 0 .bytes) ≡ nothing
       d1 = ap (o .due) e0 ∙ d
