@@ -1,11 +1,11 @@
 -- A hand that asks under ever greater numbers: a number, within a life, says what was asked. For any such hand.
 use mathlib.Core.Path.{_≡_, refl, sym, ap, subst, _∙_}
 use mathlib.Core.Logic.{_⊎_, ⊎-elim}
-use mathlib.Core.Bool.{Bool, true, false, not}
+use mathlib.Core.Bool.{true, false}
 use mathlib.Core.List.{List, [], _∷_, _++_, List·Memᴰ, List·Memᴰ·head, List·Memᴰ·tail, List·Memᴰ·not-nil}
 use Prim.Native.Nat.{ℕ, _+_, _≤_, _<_}
 use native.Mathlib.Omega.{arith}
-use lib.Dec.{eqb, T}
+use lib.Dec.{eqb}
 use Rattle.std.proofs.shelf.Tests.{eq-eqb, or-left, or-right}
 use Rattle.streams.specs.Hands.{In, Ask, Out, To, Show, Fill, Tell, Hand, Way, word, wantsBox, wantsFill, shows, says, Stand, away, here, Seen, at, isIn, Scene, sent, Goes, first, turns, asked, showsBox, fills, doesntFill, goes, comes}
 use Rattle.shelf.specs.Moments.{Rises, Asks}

@@ -61,6 +61,7 @@ module _ (o : Ops) (p : Plan) (logs : ℕ) (P : Plain o p logs) (V : Live o p lo
   no-waits a k y = let h = waits-ok H HasM (worker-keeps-calls o logs) (worker-takes-calls o logs) (F .at' .mid .goes) a k in
       empty-has (F .m .keep) (a .number) (F .empty .0) (F .empty .1) (subst (λ z. Waiting HasM z (a .number)) (ap (to .hand) (sym y) ∙ F .at' .mid .minds) h)
 
+  -- all that waits is told
   pub one-enough : (fs : List (Seen Call Reply)) × (t : Scene Mind ℕ) × Alone H i s fs t × ((k : ℕ) → List·Memᴰ (record { hand = i; number = k }) (s .waits) → (r : Reply) × List·Memᴰ (told i k r) fs)
   one-enough = (F .at' .mid .fs, to, F .at' .mid .run, λ k w. ⊎-elim (λ z. absurd (no-waits (record { hand = i; number = k }) z refl)) (λ z. z) (alone-waits (F .at' .mid .run) k w))
 
@@ -149,6 +150,7 @@ module _ (o : Ops) (p : Plan) (logs : ℕ) (P : Plain o p logs) (V : Live o p lo
   same-mind : (v : Mind) → to .hand i ≡ here c v → M ≡ v
   same-mind v hv = let u : _≡_ {A = Stand Mind} (here c M) (here c v) = sym (F .at' .mid .minds) ∙ hv in (cc)
 
+  -- at rest, with nothing due and all taken, an answer is all that there is
   pub comes-out : AnswersAll o p logs P V → (fs : List (Seen Call Reply)) × (t : Scene Mind ℕ) × Alone H i s fs t × (countAt i (t .waits) ≡ 0) × (u : State) × (os : List (Open Call)) × (rs : List (Ready Reply)) × Book (streams p logs core) (fs ++ es) u os rs ×
       ((k from most : ℕ) (v : Mind) → t .hand i ≡ here c v → T (not (isUsed k (fs ++ es))) → k < 18446744073709551616 → most ≤ 1024 → u .dropped ≤ from →
       (gs : List (Seen Call Reply)) × (w : Scene Mind ℕ) × Alone H i (turned H i c (H .turns (Ask k (Out' from most)) v) (asking i k t)) gs w ×

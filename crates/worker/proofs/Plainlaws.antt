@@ -1,23 +1,29 @@
 -- A book that promises what Plain says keeps the worker's laws: what held once is carried along.
 use mathlib.Core.Path.{_≡_, refl, sym, ap, subst, _∙_}
 use mathlib.Core.Logic.{_⊎_, inl, inr, ⊎-elim}
-use mathlib.Core.Bool.{_&&_}
 use mathlib.Core.List.{List, [], List·Memᴰ}
 use Prim.Native.Nat.{ℕ, suc, _+_, _≤_, _<_}
 use native.Mathlib.Omega.{arith}
-use lib.Dec.{leb, T}
+use lib.Dec.{T}
 use lib.ListN.{length}
 use Rattle.streams.specs.Meaning.{Event, Entry, Plan}
 use Rattle.streams.specs.Calls.{entryOk, empties}
-use Rattle.streams.specs.Hands.{Box, at, allBytes}
+use Rattle.streams.specs.Hands.{Box, at}
 use Rattle.interface.specs.Ops.{gives, Due, nothing, alone, withPage, Page, Ops, logBox, putAll, IsPage, Gathered, noPage, onePage, Tag}
 use Rattle.worker.specs.Laws.{Right, Laws}
 use Rattle.interface.specs.Plain.{Plain, Now, Kept}
-use Rattle.shelf.proofs.Places.{at-self, at-one, at-other}
+use Rattle.shelf.proofs.Places.{at-self, at-other}
 use Rattle.worker.proofs.Invariant.{log-some}
 use Rattle.shelf.proofs.Scripts.{Fits}
 
+-- the page at hand stays where another box is filled
+pub now-on : (f g : ℕ → Box) (d : Due) (x : List ℕ) → ((b : ℕ) → d ≡ withPage b → g b .bytes ≡ f b .bytes) → Now f d x → Now g d x
+now-on f g nothing x e y = y
+now-on f g alone x e y = y
+now-on f g (withPage b) x e y = e b refl ∙ y
+
 module _ (o : Ops) (p : Plan) (logs : ℕ) (P : Plain o p logs) where
+  -- a world: the logs, and the boxes as they are. What was so once is carried along by what Plain says of every filling.
   pub record W : Type 0 where
     pub ls : List (List Entry)
     pub f : ℕ → Box
@@ -25,6 +31,7 @@ module _ (o : Ops) (p : Plan) (logs : ℕ) (P : Plain o p logs) where
   abbrev led : W → List ℕ
   led w = w .f 0 .bytes
 
+  -- a page must hold that: it is spent and holds it, or the ledger calls for it to be written so
   abbrev SpentAs : W → ℕ → List ℕ → Type 0
   SpentAs w b x = P .Spent (led w) b × (1 ≤ w .f b .edition) × (w .f b .bytes ≡ x)
 
@@ -34,6 +41,7 @@ module _ (o : Ops) (p : Plan) (logs : ℕ) (P : Plain o p logs) where
   abbrev Must' : W → ℕ → List ℕ → Type 0
   Must' w b x = Fits x × IsPage b × (SpentAs w b x ⊎ Called w b x)
 
+  -- an old ledger: known to the book; the page that it calls for is spent; what it would write is what must be written
   pub record LedWas (w : W) (l : List ℕ) : Type 0 where
     pub up : P .LedWas (w .ls) (w .f) l
     pub names : (b : ℕ) → o .due l ≡ withPage b → P .Spent (led w) b
@@ -48,6 +56,7 @@ module _ (o : Ops) (p : Plan) (logs : ℕ) (P : Plain o p logs) where
   abbrev Kept' : W → W → Type 0
   Kept' v w = Kept (P .LedWas) (P .LogWas) (P .Floor) (P .Spent) (v .ls) (v .f) (w .ls) (w .f)
 
+  -- from one world to a later one
   pub record Up' (v w : W) : Type 0 where
     pub was : (b : ℕ) (x : List ℕ) → Was' v b x → Was' w b x
     pub must : (b : ℕ) (x : List ℕ) → Must' v b x → Must' w b x
@@ -75,6 +84,7 @@ module _ (o : Ops) (p : Plan) (logs : ℕ) (P : Plain o p logs) where
   now-one f alone x y a b = a ∙ sym b
   now-one f (withPage t) x y a b = sym a ∙ b
 
+  -- what boxes hold now
   pub was-now' : {n : ℕ} {w : W} → P .Sound n (w .ls) (w .f) → (b : ℕ) → Was' w b (w .f b .bytes)
   was-now' {n} {w} s b = (
     λ e. subst (λ z. LedWas w (w .f z .bytes)) (sym e) (record {
@@ -95,6 +105,7 @@ module _ (o : Ops) (p : Plan) (logs : ℕ) (P : Plain o p logs) where
     now-back alone x sp y = y
     now-back (withPage b) x sp y = let z = P .spent-filled s b (sp b refl) in ap (λ u. u .bytes) (sym (stay b (z .0) (z .1))) ∙ y
 
+    -- an old ledger stays one
     led-on : (l : List ℕ) → LedWas v l → LedWas w l
     led-on l h = record { up = kp .led l (h .up); names = λ b e. kp .spent b (h .names b e); musts = λ x now a m. must-up (a .box) (a .bytes) (h .musts x (now-back (o .due l) x (h .names) now) a m) }
 
@@ -104,12 +115,6 @@ module _ (o : Ops) (p : Plan) (logs : ℕ) (P : Plain o p logs) where
       must = must-up;
       floor = λ x h. kp .floor x h;
     }
-
-  -- the page at hand stays where another box is filled
-  now-on : (f g : ℕ → Box) (d : Due) (x : List ℕ) → ((b : ℕ) → d ≡ withPage b → g b .bytes ≡ f b .bytes) → Now f d x → Now g d x
-  now-on f g nothing x e y = y
-  now-on f g alone x e y = y
-  now-on f g (withPage b) x e y = e b refl ∙ y
 
   abbrev Ends : (n : ℕ) (w : W) (g : ℕ → Box) (ls : List (List Entry)) → Type 0
   Ends n w g ls = (v : W) × Up' w v × Sound' n v g × (v .ls ≡ ls)
@@ -131,6 +136,7 @@ module _ (o : Ops) (p : Plan) (logs : ℕ) (P : Plain o p logs) where
     led-fill-up : (y : Box) → Kept' w (record { ls = w .ls; f = at 0 y (w .f) }) → ((b : ℕ) (x : List ℕ) → Called w b x → SpentAs (record { ls = w .ls; f = at 0 y (w .f) }) b x ⊎ Called (record { ls = w .ls; f = at 0 y (w .f) }) b x) → Up' w (record { ls = w .ls; f = at 0 y (w .f) })
     led-fill-up y kp called = ups w (record { ls = w .ls; f = at 0 y (w .f) }) s kp (λ b pg one. at-other 0 y (w .f) b (pg .0)) called
 
+    -- the five fillings: a batch, a page, a step, the ledger as it is, a take
     pub put' : (i c t l e : ℕ) (fl bs : List ℕ) (es : List Entry) → n < P .bound → l < logs → Floor' w fl → Tag n i c t → ((x : Entry) → List·Memᴰ x es → T (entryOk x)) → length es ≤ 8 → o .adds fl i c t l (w .f (logBox l) .bytes) es ≡ gives bs →
         Ends (suc n) w (at (logBox l) (record { edition = e + 1; bytes = bs }) (w .f)) (putAll l es (w .ls))
     put' i c t l e fl bs es sm lt fo tag ok few g = let r = P .put-ok i c t l e fl bs es sm s lt fo tag ok few g in let y : Box = record { edition = e + 1; bytes = bs } in
@@ -205,6 +211,7 @@ module _ (o : Ops) (p : Plan) (logs : ℕ) (P : Plain o p logs) where
   pub off : {n : ℕ} {w : W} {f : ℕ → Box} (Q : (ℕ → Box) → Type 0) → Sound' n w f → Q f → Q (w .f)
   off Q s q = subst Q (sym (s .is)) q
 
+  -- the laws
   abbrev pub plain-laws : Laws o p logs
   plain-laws = record {
     bound = P .bound;
