@@ -13,7 +13,7 @@ use Rattle.streams.specs.Calls.{Call, Put, Out', Drop, Reply, No, Yes, Outs, en
 use Rattle.streams.specs.Hands.{Box, In, From, Shown, Filled, Ask, Beat, Tell, here, Seen, Scene, Goes, countAt, Way}
 use Rattle.interface.specs.Ops.{Gives, lacks, gives, Due, nothing, alone, withPage, Next, page, reply, Page, Ops, logBox}
 use Rattle.worker.specs.Worker.{Job, Batch, none, some, Phase, rest, log, put, ledger, page', written, kept, look, answer', gather, Keep, Mind, Told, Asks, none', show, fill, Step, keepIf, entries, stays, asks, keeping, hearing, looking, waits, fixed, settled', forLog, yeses, isNothing, readLedger, startCall, startBy, start, idleBy, idle, settle, fillLog, putting, onLogBy, onPutBy, write, nextLog, onLedgerBy, onLedger, tookBy, gatherBy, gathers, onShown, onFilled, refuses, accepts, judges, acts, putsOf, isRest, telling, asking', worker, lessOne}
-use Rattle.worker.specs.Laws.{Laws}
+use Rattle.worker.proofs.Laws.{Laws}
 use Rattle.shelf.proofs.Places.{all-cons, all-none}
 use Rattle.shelf.proofs.Counts.{minds-wait, Differ, count-at}
 use Rattle.worker.proofs.Jobs.{Distinct, in-keep}

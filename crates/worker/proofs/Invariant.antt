@@ -15,7 +15,7 @@ use Rattle.streams.specs.Calls.{Call, Put, Out', Drop, Reply, No, Yes, Outs, St
 use Rattle.streams.specs.Hands.{Box, In, Ask, Way, word, wantsBox, wantsFill, shows, says, Stand, away, here, Seen, called, told, isUsed, isIn, at, Open, Ready, fillable, allBytes, Comes, a-word, a-box, a-filling, a-beat}
 use Rattle.interface.specs.Ops.{Gives, lacks, gives, Due, nothing, alone, withPage, Next, page, reply, Page, Ops, logBox, putAll, IsPage, Gathered, noPage, onePage, Tag}
 use Rattle.worker.specs.Worker.{stays, asks, keeping, hearing, looking, waits, fixed, settled', saying, forLog, yeses, isNothing, readLedger, startCall, startBy, start, idleBy, idle, settle, fillLog, putting, onLogBy, onPutBy, write, nextLog, onLedgerBy, onLedger, onPage, tookBy, gatherBy, gathers, onShown, onFilled, refuses, accepts, judges, acts, putsOf, isRest, worker, lessOne, Job, Batch, none, some, Phase, rest, log, put, ledger, page', written, kept, look, answer', gather, Keep, Mind, Told, Asks, none', show, fill, Step, keepIf, entries}
-use Rattle.worker.specs.Laws.{Right, Laws}
+use Rattle.worker.proofs.Laws.{Right, Laws}
 use Rattle.shelf.proofs.Places.{all-cons, all-none, all-append, at-case, at-hands, not-here, at-self, at-one, at-other, at-twice}
 use Rattle.shelf.proofs.Callers.{by, caller, caller-used, caller-stays, caller-new}
 use Rattle.shelf.proofs.History.{Kept}

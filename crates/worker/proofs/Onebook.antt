@@ -13,7 +13,7 @@ use Rattle.streams.specs.Calls.{Call, Put, Out', Drop, Reply, State, entryOk}
 use Rattle.streams.specs.Hands.{Box, In, From, Shown, Filled, Ask, Beat, wantsFill, shows, says, away, here, Seen, called, isUsed, isIn, at, Scene, Open, Ready, Book, sent, tells, Goes, first, turns, asked, showsBox, fills, doesntFill, goes, comes}
 use Rattle.interface.specs.Ops.{Gives, lacks, gives, Due, nothing, alone, withPage, Next, page, reply, Page, Ops, logBox}
 use Rattle.worker.specs.Worker.{Job, Batch, none, some, Phase, rest, log, put, ledger, page', written, kept, look, answer', gather, Keep, Mind, Told, Asks, none', show, fill, Step, keepIf, entries, stays, asks, keeping, hearing, looking, waits, fixed, settled', forLog, isNothing, readLedger, startCall, startBy, start, idleBy, idle, settle, fillLog, putting, onLogBy, onPutBy, write, nextLog, onLedgerBy, tookBy, gatherBy, gathers, onShown, onFilled, refuses, accepts, judges, acts, putsOf, isRest, telling, asking', turnOf, worker, lessOne}
-use Rattle.worker.specs.Laws.{Laws}
+use Rattle.worker.proofs.Laws.{Laws}
 use Rattle.shelf.specs.Moments.{Rises}
 use Rattle.shelf.proofs.Places.{not-here, fillable-edition, is-false}
 use Rattle.shelf.proofs.History.{past}

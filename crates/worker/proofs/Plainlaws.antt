@@ -10,7 +10,7 @@ use Rattle.streams.specs.Meaning.{Event, Entry, Plan}
 use Rattle.streams.specs.Calls.{entryOk, empties}
 use Rattle.streams.specs.Hands.{Box, at}
 use Rattle.interface.specs.Ops.{gives, Due, nothing, alone, withPage, Page, Ops, logBox, putAll, IsPage, Gathered, noPage, onePage, Tag}
-use Rattle.worker.specs.Laws.{Right, Laws}
+use Rattle.worker.proofs.Laws.{Right, Laws}
 use Rattle.interface.specs.Plain.{Plain, Now, Kept}
 use Rattle.shelf.proofs.Places.{at-self, at-other}
 use Rattle.worker.proofs.Invariant.{log-some}
