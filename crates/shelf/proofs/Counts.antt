@@ -12,6 +12,7 @@ use Rattle.streams.specs.Hands.{In, Ask, Out, To, Show, Fill, Tell, Hand, Way, 
 use Rattle.shelf.proofs.Places.{at-case, at-hands, not-here}
 use Rattle.shelf.proofs.Latelooks.{Less, taken, later, less-of, less-rest}
 
+-- what is not told still waits
 pub stay-without : (i k : ℕ) (ws : List Waits) (a : Waits) → List·Memᴰ a ws → (i ≡ a .hand → k ≡ a .number → ⊥) → List·Memᴰ a (without i k ws)
 unfolding without
 stay-without i k [] a m n = elim m [ ]
@@ -103,6 +104,7 @@ count-less i k ws vs (later {x = x} {l = l} {m = m} h) = let r = count-less i k 
     cond-both (eqb i (x .hand)) (1 + countAt i l) (countAt i l) (λ z. z ≡ 1 + cond (eqb i (x .hand)) (1 + countAt i m) (countAt i m))
     (λ t. ap (λ z. 1 + z) r ∙ ap (λ z. 1 + z) (sym (cond-true (eqb i (x .hand)) (1 + countAt i m) (countAt i m) t))) (λ t. r ∙ ap (λ z. 1 + z) (sym (cond-false (eqb i (x .hand)) (1 + countAt i m) (countAt i m) t)))
 
+-- as many as differ
 pub count-at : (i : ℕ) (ks : List ℕ) (ws : List Waits) → Differ ks → ((k : ℕ) → List·Memᴰ k ks → List·Memᴰ (record { hand = i; number = k }) ws) → length ks ≤ countAt i ws
 count-at i [] ws d f = omega arith
 count-at i (k ∷ ks) ws d f = let l = less-of (f k (List·Memᴰ·head refl)) in

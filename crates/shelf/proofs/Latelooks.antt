@@ -71,6 +71,7 @@ pub data Chosen {O R : Type 0} : List (Pending O R) → List (Open O) → List (
   keep : {a : Pending O R} {as' : List (Pending O R)} {os : List (Open O)} {gs : List (Ready R)} → Chosen as' os gs → Chosen (a ∷ as') (a .open' ∷ os) gs
   take : {a : Pending O R} {as' : List (Pending O R)} {os : List (Open O)} {gs : List (Ready R)} (r : R) → List·Memᴰ r (a .could) → Chosen as' os gs → Chosen (a ∷ as') os (replyTo (a .open') r ∷ gs)
 
+-- one more that stays open, one more that is answered
 chosen-keep : {O R : Type 0} {a : Pending O R} {as' bs : List (Pending O R)} {os : List (Open O)} {gs : List (Ready R)} → Less a as' bs → Chosen bs os gs → (ps : List (Open O)) × Chosen as' ps gs × Less (a .open') ps os
 chosen-keep {os = os} (taken {x = x} e) ch = (x .open' ∷ os, keep ch, taken (ap (λ z. z .open') e))
 chosen-keep (later {x = x} h) (keep ch) = let r = chosen-keep h ch in (x .open' ∷ r .0, keep (r .1), later (r .2))

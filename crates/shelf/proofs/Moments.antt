@@ -1,23 +1,13 @@
 -- What holds of the shelf whatever hands do: from one step to the next, and so between any two moments.
 use mathlib.Core.Path.{_≡_, refl, sym, ap, subst, _∙_}
 use mathlib.Core.Logic.{_⊎_, inl, inr}
-use mathlib.Core.Bool.{Bool, true, false, not}
 use mathlib.Core.List.{List, List·Memᴰ, List·Memᴰ·tail, Memᴰ·append-right}
 use Prim.Native.Nat.{ℕ, zero, suc, _+_, _≤_}
 use native.Mathlib.Omega.{arith}
-use lib.Dec.{T}
 use Rattle.streams.specs.Hands.{Box, Ask, Hand, Way, word, wantsBox, wantsFill, shows, says, Seen, Scene, sent, fillable, Goes, first, turns, asked, showsBox, fills, doesntFill, goes, comes}
 use Rattle.shelf.specs.Moments.{Moment, before, back, ShownAt, FilledAt}
-use Rattle.shelf.proofs.Places.{all-cons, all-none, all-append, at-one, fillable-edition}
+use Rattle.shelf.proofs.Places.{all-cons, all-none, all-append, at-one, fillable-edition, is-true, is-false}
 use Rattle.shelf.proofs.History.{all-sent}
-
-is-true : (b : Bool) → T b → b ≡ true
-is-true true t = refl
-is-true false t = absurd t
-
-is-false : (b : Bool) → T (not b) → b ≡ false
-is-false true t = absurd t
-is-false false t = refl
 
 module _ {M O R : Type 0} {h : Hand M O R} {all : ℕ} where
   -- in one step a box stays, or its edition rises by one

@@ -1,15 +1,15 @@
 -- A hand that asks under ever greater numbers: a number, within a life, says what was asked. For any such hand.
 use mathlib.Core.Path.{_≡_, refl, sym, ap, subst, _∙_}
 use mathlib.Core.Logic.{_⊎_, ⊎-elim}
-use mathlib.Core.Bool.{Bool, true, false, not}
+use mathlib.Core.Bool.{true, false}
 use mathlib.Core.List.{List, [], _∷_, _++_, List·Memᴰ, List·Memᴰ·head, List·Memᴰ·tail, List·Memᴰ·not-nil}
 use Prim.Native.Nat.{ℕ, _+_, _≤_, _<_}
 use native.Mathlib.Omega.{arith}
-use lib.Dec.{eqb, T}
+use lib.Dec.{eqb}
 use Rattle.std.proofs.shelf.Tests.{eq-eqb, or-left, or-right}
 use Rattle.streams.specs.Hands.{In, Ask, Out, To, Show, Fill, Tell, Hand, Way, word, wantsBox, wantsFill, shows, says, Stand, away, here, Seen, at, isIn, Scene, sent, Goes, first, turns, asked, showsBox, fills, doesntFill, goes, comes}
 use Rattle.shelf.specs.Moments.{Rises, Asks}
-use Rattle.shelf.proofs.Places.{all-cons, all-none, all-append, at-case, at-hands, not-here}
+use Rattle.shelf.proofs.Places.{all-cons, all-none, all-append, at-case, at-hands, not-here, is-false}
 
 -- what is known of the numbers asked under: each life's is drawn, they are at most what its mind has, and tell requests apart
 pub record Fresh {Mind M : Type 0} (top : Mind → ℕ) (f : ℕ → Stand Mind) (ws : List (Way M)) (drawn : List ℕ) : Type 0 where
@@ -116,10 +116,6 @@ module _ {Mind M : Type 0} (top : Mind → ℕ) (f : ℕ → Stand Mind) (ws : L
     same = k .same;
   }
 
-no-use : (b : Bool) → T (not b) → b ≡ false
-no-use true t = absurd t
-no-use false t = refl
-
 -- it holds all along, if numbers rise in each turn
 pub fresh : {M O R : Type 0} (h : Hand M O R) (top : h .Mind → ℕ) → ((x : In M O) (m : h .Mind) → Rises (top m) (h .turns x m .does) (top (h .turns x m .mind))) →
     {all n : ℕ} {es : List (Seen O R)} {s : Scene (h .Mind) M} → Goes h all n es s → Fresh top (s .hand) (s .ways) (s .drawn)
@@ -130,4 +126,4 @@ fresh h top up (showsBox {s = s} i c k b g w) = fresh-more top (s .hand) (s .way
 fresh h top up (fills {s = s} i c k b e bs g w t) = fresh-more top (s .hand) (s .ways) (s .drawn) (fresh h top up g) (says i c k true (e + 1)) (λ i c q u. u)
 fresh h top up (doesntFill {s = s} i c k b e bs g w t) = fresh-more top (s .hand) (s .ways) (s .drawn) (fresh h top up g) (says i c k false (s .box b .edition)) (λ i c q u. u)
 fresh h top up (goes {s = s} i c m lt g e) = fresh-gone top (s .hand) (s .ways) (s .drawn) (fresh h top up g) i
-fresh h top up (comes {s = s} i r lt lt' new g e) = fresh-come top (s .hand) (s .ways) (s .drawn) (fresh h top up g) i r (h .begins i r) (no-use (isIn r (s .drawn)) new)
+fresh h top up (comes {s = s} i r lt lt' new g e) = fresh-come top (s .hand) (s .ways) (s .drawn) (fresh h top up g) i r (h .begins i r) (is-false (isIn r (s .drawn)) new)

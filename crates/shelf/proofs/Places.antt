@@ -1,7 +1,7 @@
 -- Facts about all of a list, and about a function that is changed at one place: hands and boxes are such functions.
-use mathlib.Core.Path.{_≡_, refl, sym, subst, subst₃}
+use mathlib.Core.Path.{fun-ext, _≡_, refl, sym, subst, subst₃}
 use mathlib.Core.Logic.{_⊎_, inl, inr, ⊎-elim}
-use mathlib.Core.Bool.{Bool, true, false, _&&_}
+use mathlib.Core.Bool.{cond, Bool, true, false, _&&_, not}
 use mathlib.Core.List.{List, [], _∷_, _++_, List·Memᴰ, List·Memᴰ·head, List·Memᴰ·tail, List·Memᴰ·not-nil, List·Memᴰ·append-cases}
 use Prim.Native.Nat.{ℕ, _+_}
 use native.Mathlib.Omega.{arith}
@@ -54,3 +54,20 @@ fillable-edition b e bs t = go (eqb e (b .edition)) refl t
     go : (z : Bool) → eqb e (b .edition) ≡ z → T (z && leb (length bs) 1048576 && allBytes bs) → e ≡ b .edition
     go true x y = eqb-true e (b .edition) x
     go false x y = absurd y
+
+-- the other places have what they had
+pub at-other : {A : Type 0} (i : ℕ) (x : A) (f : ℕ → A) (j : ℕ) → (j ≡ i → ⊥) → at i x f j ≡ f j
+at-other i x f j ne = at-one (λ z. z ≡ f j) i x f j (λ y. absurd (ne y)) (λ y. refl)
+
+-- a place that is changed twice has the last value
+pub at-twice : {A : Type 0} (b : ℕ) (x y : A) (f : ℕ → A) → at b x (at b y f) ≡ at b x f
+at-twice b x y f = fun-ext (λ j. elim (eqb j b) as (λ t. cond t x (cond t y (f j)) ≡ cond t x (f j)) [ true ↦ refl | false ↦ refl ])
+
+-- tests, as equations
+pub is-true : (b : Bool) → T b → b ≡ true
+is-true true t = refl
+is-true false t = absurd t
+
+pub is-false : (b : Bool) → T (not b) → b ≡ false
+is-false true t = absurd t
+is-false false t = refl

@@ -13,6 +13,7 @@ use Rattle.shelf.proofs.Places.{all-cons}
 other : {M R : Type 0} (a : Waits) (r : R) (o : Out M R) (os : List (Out M R)) → (_≡_ {A = Out M R} (Tell (a .number) r) o → ⊥) → (List·Memᴰ (Tell (a .number) r) os → ⊥) → List·Memᴰ (Tell (a .number) r) (o ∷ os) → ⊥
 other a r o os f g m = ⊎-elim f g (List·Memᴰ·cases-cons m)
 
+-- what still waits after something was told, or a hand has gone, waited before and was not that
 pub in-without : (i k : ℕ) (ws : List Waits) (a : Waits) → List·Memᴰ a (without i k ws) → List·Memᴰ a ws × (i ≡ a .hand → k ≡ a .number → ⊥)
 unfolding without
 in-without i k [] a m = elim m [ ]

@@ -14,16 +14,18 @@ use Rattle.streams.specs.Hands.{Box, In, From, Shown, Filled, Ask, Beat, Tell, 
 use Rattle.book.specs.Ledger.{logBox}
 use Rattle.book.specs.Interface.{Gives, lacks, gives, Calls, nothing, alone, withPage, Next, page, reply, Filling, Ops}
 use Rattle.worker.specs.Worker.{Job, Batch, none, some, Phase, rest, log, put, ledger, page', written, kept, look, answer', gather, Keep, Mind, Told, Asks, none', show, fill, Step, keepIf, entries, stays, asks, keeping, hearing, looking, waits, fixed, settled', forLog, yeses, isNothing, readLedger, startCall, startBy, start, idleBy, idle, settle, fillLog, putting, onLogBy, onPutBy, write, nextLog, onLedgerBy, onLedger, tookBy, gatherBy, gathers, onShown, onFilled, refuses, accepts, judges, acts, putsOf, isRest, telling, asking', worker, lessOne}
-use Rattle.worker.specs.Laws.{Laws}
+use Rattle.worker.proofs.Laws.{Laws}
 use Rattle.shelf.proofs.Places.{all-cons, all-none}
 use Rattle.shelf.proofs.Counts.{minds-wait, Differ, count-at}
 use Rattle.worker.proofs.Jobs.{Distinct, in-keep}
 use Rattle.worker.proofs.Invariant.{none-some, PhaseOk}
 use Rattle.worker.proofs.Onebook.{inv}
 
+-- a call is in mind: it waits, or is in the batch
 abbrev pub HasK : Keep → ℕ → Type 0
 HasK k n = ((j : Job) × List·Memᴰ j (k .waiting) × (n ≡ j .number)) ⊎ ((l : ℕ) × (ps : List Job) × (k .batch ≡ some l ps) × (j : Job) × List·Memᴰ j ps × (n ≡ j .number))
 
+-- numbers in mind differ
 pub record Apart (k : Keep) : Type 0 where
   pub waiting : Distinct (k .waiting)
   pub batch : (l : ℕ) (ps : List Job) → k .batch ≡ some l ps → Distinct ps × ((j : Job) → List·Memᴰ j ps → (a : Job) → List·Memᴰ a (k .waiting) → j .number ≡ a .number → ⊥)
@@ -50,6 +52,7 @@ pub data Can' (x : In ℕ Call) (m : Mind) (r : Step) : Type 0 where
   refuses' : (k w : ℕ) (c : Call) → x ≡ Ask k c → r .tell ≡ record { number = k; reply = No w } ∷ [] → r .mind .keep ≡ m .keep → (w ≡ 11 → 8 ≤ length (m .keep .waiting) + putsOf (m .keep .batch)) → Can' x m r
   accepts' : (k : ℕ) (c : Call) → x ≡ Ask k c → r .tell ≡ [] → r .mind .keep ≡ waits (m .keep) (m .keep .waiting ++ (record { number = k; call = c } ∷ [])) → Can' x m r
 
+-- a step that tells nothing and changes nothing of what is kept
 abbrev pub Kp : Keep → Step → Type 0
 Kp k r = (r .tell ≡ []) × (r .mind .keep ≡ k)
 
@@ -284,6 +287,7 @@ module _ (o : Ops) (p : Plan) (logs : ℕ) (L : Laws o p logs) where
   fit-ok all n es s al sm g i c m e = let v = inv o p logs L al (let f = L .far in omega arith) g in let k = v .3 .hands i c m e in
       record { apart = record { waiting = k .keep .distinct; batch = λ l ps b. let q = k .keep .batch l ps b in (q .distinct, q .clear) }; answering = fit-phase (v .0) (s .box) (s .ways) i c (m .asked) (m .keep) (m .phase) (k .phase) }
 
+  -- only a ninth call is handed back
   pub worker-busy : {all n : ℕ} {es : List (Seen Call Reply)} {s : Scene Mind ℕ} → all ≤ 64 → n < 72057594037927936 → Goes (worker o logs) all n es s → (i c k : ℕ) (m : Mind) (x : In ℕ Call) → s .hand i ≡ here c m → List·Memᴰ (Tell k (No 11)) (worker o logs .turns x m .does) →
       (d : Call) × (x ≡ Ask k d) × (8 ≤ countAt i (s .waits))
   worker-busy {all} {n} {es} {s} al sm g i c k m x e t =

@@ -15,8 +15,9 @@ use Rattle.streams.specs.Promise.{streams}
 use Rattle.book.specs.Ledger.{logBox}
 use Rattle.book.specs.Interface.{nothing, reply, Ops, Safe}
 use Rattle.worker.specs.Worker.{Job, none, some, rest, Keep, Mind, none', asks, keeping, hearing, waits, start, startBy, accepts, judges, refuses, acts, worker, putsOf}
-use Rattle.book.specs.Live.{Live, AnswersAll}
-use Rattle.worker.specs.Theorems.{WorkerEnds, WorkerOut}
+use Rattle.interface.specs.Plain.{Plain}
+use Rattle.interface.specs.Live.{Live, AnswersAll}
+use Rattle.worker.specs.Theorems.{WorkerEnds, WorkerOut, WorkerWithin}
 use Rattle.shelf.proofs.Places.{at-self}
 use Rattle.shelf.proofs.Waiting.{Waiting, waits-ok}
 use Rattle.worker.proofs.Invariant.{none-some}
@@ -61,8 +62,25 @@ module _ (o : Ops) (p : Plan) (logs : ℕ) (P : Safe o p logs) (V : Live o p log
   no-waits a k y = let h = waits-ok H HasM (worker-keeps-calls o logs) (worker-takes-calls o logs) (F .at' .mid .goes) a k in
       empty-has (F .m .keep) (a .number) (F .empty .0) (F .empty .1) (subst (λ z. Waiting HasM z (a .number)) (ap (to .hand) (sym y) ∙ F .at' .mid .minds) h)
 
+  -- all that waits is told
   pub one-enough : (fs : List (Seen Call Reply)) × (t : Scene Mind ℕ) × Alone H i s fs t × ((k : ℕ) → List·Memᴰ (record { hand = i; number = k }) (s .waits) → (r : Reply) × List·Memᴰ (told i k r) fs)
   one-enough = (F .at' .mid .fs, to, F .at' .mid .run, λ k w. ⊎-elim (λ z. absurd (no-waits (record { hand = i; number = k }) z refl)) (λ z. z) (alone-waits (F .at' .mid .run) k w))
+
+  -- all that and how soon
+  pub within : (fs : List (Seen Call Reply)) × (t : Scene Mind ℕ) × (k : ℕ) × Alone H i s fs t × Goes H all k (fs ++ es) t × (k ≤ n + 12 * V .work (s .box 0 .bytes) (s .box) + 120 * V .heavy + 120 * V .long + 24 * logs + 442) × (countAt i (t .waits) ≡ 0) ×
+      (o .due (t .box 0 .bytes) ≡ nothing) × ((l : ℕ) → l < logs → V .Took (t .box 0 .bytes) l (t .box (logBox l) .bytes))
+  unfolding tot
+  within = (
+    F .at' .mid .fs,
+    to,
+    F .n,
+    F .at' .mid .run,
+    F .at' .mid .goes,
+    (let q = F .spent in omega (arith, q)),
+    count-none i (to .waits) no-waits,
+    subst (λ z. o .due (z 0 .bytes) ≡ nothing) (sym (F .at' .mid .boxes)) (F .idle'),
+    λ l ll. subst (λ z. V .Took (z 0 .bytes) l (z (logBox l) .bytes)) (sym (F .at' .mid .boxes)) (F .took l ll),
+  )
 
   -- asked for what came out, at rest
   ask-is : (k from most : ℕ) → most ≤ 1024 → (x : Keep) × (x .batch ≡ none) × (x .waiting ≡ record { number = k; call = Out' from most } ∷ []) × (acts o logs (Ask k (Out' from most)) M .mind .keep ≡ x)
@@ -133,6 +151,7 @@ module _ (o : Ops) (p : Plan) (logs : ℕ) (P : Safe o p logs) (V : Live o p log
   same-mind : (v : Mind) → to .hand i ≡ here c v → M ≡ v
   same-mind v hv = let u : _≡_ {A = Stand Mind} (here c M) (here c v) = sym (F .at' .mid .minds) ∙ hv in (cc)
 
+  -- at rest, with nothing due and all taken, an answer is all that there is
   pub comes-out : AnswersAll o p logs P V → (fs : List (Seen Call Reply)) × (t : Scene Mind ℕ) × Alone H i s fs t × (countAt i (t .waits) ≡ 0) × (u : State) × (os : List (Open Call)) × (rs : List (Ready Reply)) × Book (streams p logs core) (fs ++ es) u os rs ×
       ((k from most : ℕ) (v : Mind) → t .hand i ≡ here c v → T (not (isUsed k (fs ++ es))) → k < 18446744073709551616 → most ≤ 1024 → u .dropped ≤ from →
       (gs : List (Seen Call Reply)) × (w : Scene Mind ℕ) × Alone H i (turned H i c (H .turns (Ask k (Out' from most)) v) (asking i k t)) gs w ×
@@ -154,3 +173,6 @@ worker-ends o p logs P V one all n oneA al sm es s g i c m lt e = one-enough o p
 
 pub worker-out : WorkerOut
 worker-out o plans lay p pp ok logs one lg all n oneA al sm es s g i c m lt e = let q = lay p pp ok logs one lg in comes-out (o p logs) p logs (q .0) (q .1) one all n al sm es s g i c m lt e (q .2)
+
+pub worker-within : WorkerWithin
+worker-within o p logs P V one all n al sm es s g i c m lt e = within o p logs P V one all n al sm es s g i c m lt e

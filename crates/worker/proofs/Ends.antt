@@ -20,7 +20,8 @@ use Rattle.worker.proofs.Invariant.{log-some, CallOk}
 use Rattle.worker.proofs.Onebook.{inv}
 use Rattle.worker.proofs.Plainlaws.{plain-laws}
 use Rattle.worker.proofs.Alone.{At, see, mid-turn}
-use Rattle.worker.proofs.Tending.{sound-at, fit-of, pours, other, next, ahead, ledger-done}
+use Rattle.worker.proofs.Tending.{sound-at, fit-of, pours, next, ahead, ledger-done}
+use Rattle.shelf.proofs.Places.{at-other}
 
 diff : (a b : ℕ) → a ≤ b → (d : ℕ) × (b ≡ a + d)
 diff zero b le = (b, omega arith)
@@ -31,6 +32,7 @@ abbrev pub batchOne : Batch → ℕ
 batchOne none = 0
 batchOne (some l ps) = 1
 
+-- how many jobs there are: calls that wait, and one for the batch
 abbrev pub jobsIn : Keep → ℕ
 jobsIn k = length (k .waiting) + batchOne (k .batch)
 
@@ -41,6 +43,7 @@ module _ (o : Ops) (p : Plan) (logs : ℕ) (P : Safe o p logs) (V : Live o p log
   abbrev W0 : (ℕ → Box) → ℕ
   W0 f = V .work (f 0 .bytes) f
 
+  -- what is used of the invariant
   pub record KeepFacts (k : Keep) : Type 0 where
     pub few : length (k .waiting) + putsOf (k .batch) ≤ 8
     pub ok : (j : Job) → List·Memᴰ j (k .waiting) → CallOk logs (j .call)
@@ -76,6 +79,7 @@ module _ (o : Ops) (p : Plan) (logs : ℕ) (P : Safe o p logs) (V : Live o p log
     pub fewer : jobsIn (m .keep) < jobsIn k0
     pub spent : n + 12 * W0 f ≤ tot
 
+  -- why a log is put into: for the batch in hand, or for the call that waits longest
   pub data Which (l : ℕ) (k : Keep) : Type 0 where
     fixed' : (ps : List Job) → k .batch ≡ some l ps → Which l k
     first' : (j : Job) (js : List Job) → k .batch ≡ none → k .waiting ≡ j ∷ js → forLog l (j .call) ≡ true → Which l k
@@ -86,6 +90,7 @@ module _ (o : Ops) (p : Plan) (logs : ℕ) (P : Safe o p logs) (V : Live o p log
   settles : (m : Mind) (f : ℕ → Box) (n l : ℕ) (ps : List Job) (k0 : Keep) (tot : ℕ) → jobsIn (settled' (m .keep)) < jobsIn k0 → n + 12 * W0 f ≤ tot → B (settle o logs m ps) f n → Less k0 tot
   settles m f n l ps k0 tot fw sp a = record { m = keeping m (settled' (m .keep)); f = f; n = n; at' = unsay (yeses ps) (quiet-idle (keeping m (settled' (m .keep))) none (m .keep .waiting)) a; fewer = fw; spent = sp }
 
+  -- a batch is filled in, or there is no room
   puts : (m : Mind) (f : ℕ → Box) (n l : ℕ) (ps : List Job) (k k0 : Keep) (tot : ℕ) → tot < P .bound → l < logs → length (entries ps) ≤ 8 → k .batch ≡ some l ps → length (k .waiting) < jobsIn k0 → n + 12 * W0 f + 12 * V .heavy + 4 ≤ tot →
       B (putting o logs m k l ps (f (logBox l))) f n → Less k0 tot ⊎ (B (readLedger o logs (looking m (m .floor) l 1)) f n × Stuck l (m .floor) f)
   puts m f n l ps k k0 tot tb ll few kb fw bud a = by (o .adds (m .floor) (k .me) (k .chance) (k .serial) l (f (logBox l) .bytes) (entries ps)) refl a
@@ -102,7 +107,7 @@ module _ (o : Ops) (p : Plan) (logs : ℕ) (P : Safe o p logs) (V : Live o p log
           f1 = at (logBox l) (record { edition = f (logBox l) .edition + 1; bytes = bs }) f
 
           w1 : W0 f1 ≡ V .work (f 0 .bytes) f1
-          w1 = ap (λ z. V .work (z .bytes) f1) (other (logBox l) (record { edition = f (logBox l) .edition + 1; bytes = bs }) f 0 (λ z. log-some l (sym z)))
+          w1 = ap (λ z. V .work (z .bytes) f1) (at-other (logBox l) (record { edition = f (logBox l) .edition + 1; bytes = bs }) f 0 (λ z. log-some l (sym z)))
 
           wk : V .work (f 0 .bytes) f1 ≤ W0 f + V .heavy
           wk = V .work-put (f (logBox l) .edition + 1) (omega (arith, bud, tb)) (omega (arith, bud, tb)) (snd a (omega (arith, bud, tb)) .1) (k .me) (k .chance) (k .serial) l (m .floor) bs (entries ps) ll few e
@@ -115,6 +120,7 @@ module _ (o : Ops) (p : Plan) (logs : ℕ) (P : Safe o p logs) (V : Live o p log
   unfolding keepIf
   drop-one f j js e = subst (λ z. length z ≤ length js) (sym (cond-false (f j) (j ∷ keepIf f js) (keepIf f js) e)) (keep-less f js)
 
+  -- a log is shown: it is settled, filled in, or has no room
   visit : (l : ℕ) (m : Mind) (f : ℕ → Box) (n tot : ℕ) → tot < P .bound → Which l (m .keep) → l < logs → KeepFacts (m .keep) → n + 12 * W0 f + 12 * V .heavy + 6 ≤ tot → B (asks m (show (logBox l)) (log l)) f n →
       Less (m .keep) tot ⊎ (B (readLedger o logs (looking (hearing (asks m (show (logBox l)) (log l) .mind) true) (m .floor) l 1)) f (suc (suc n)) × Stuck l (m .floor) f)
   visit l m f n tot tb (fixed' ps e) ll kf bud a = by (cases-bool (o .has (f (logBox l) .bytes) (m .keep .me) (m .keep .chance) (m .keep .serial)))
@@ -176,6 +182,7 @@ module _ (o : Ops) (p : Plan) (logs : ℕ) (P : Safe o p logs) (V : Live o p log
   less-on : {k k' : Keep} {tot : ℕ} → k ≡ k' → Less k tot → Less k' tot
   less-on {k} {k'} {tot} e x = subst (λ z. Less z tot) e x
 
+  -- with no room the ledger takes that log, and then there is room: so a put meets a full box at most once
   put-round : (l : ℕ) (m : Mind) (f : ℕ → Box) (n tot : ℕ) → tot < P .bound → Which l (m .keep) → n + 12 * W0 f + 12 * V .heavy + 40 ≤ tot → B (idle o logs m) f n → Less (m .keep) tot
   put-round l m f n tot tb w bud a0 = ⊎-elim (λ z. z) (λ z. again (z .0)) (visit l m f n tot tb w ll kf (omega (arith, bud)) a)
     where
@@ -223,6 +230,7 @@ module _ (o : Ops) (p : Plan) (logs : ℕ) (P : Safe o p logs) (V : Live o p log
     pub gathered : Gathered o (Right' f) from most (f 0 .bytes) got
     pub steps : n ≤ top
 
+  -- an answer shows pages until it has all
   pub answers : (fuel : ℕ) (m : Mind) (f : ℕ → Box) (n k from most : ℕ) (got : List Event) (top : ℕ) → top < P .bound → V .left from most (f 0 .bytes) got < fuel → n + 2 * fuel ≤ top → Gathered o (Right' f) from most (f 0 .bytes) got →
       B (gathers o logs m k from most (f 0 .bytes) got) f n → Answered (m .keep) f top k from most
   answers zero m f n k from most got top tb ms bud ga a = absurd (omega (arith, ms))
@@ -258,6 +266,7 @@ module _ (o : Ops) (p : Plan) (logs : ℕ) (P : Safe o p logs) (V : Live o p log
   abbrev pub C : ℕ
   C = 12 * V .heavy + 12 * V .long + 40
 
+  -- a round for what came out
   out-round : (m : Mind) (f : ℕ → Box) (n tot : ℕ) (j : Job) (js : List Job) (from most : ℕ) → tot < P .bound → m .keep .waiting ≡ j ∷ js → n + 12 * W0 f + C ≤ tot → B (asks m (show 0) (answer' (j .number) from most)) f n → Less (m .keep) tot
   out-round m f n tot j js from most tb w bud a =
       let r = ask-answer m f n (j .number) from most (n + 2 * V .long + 4) (omega (arith, bud, tb)) (omega arith) a in
@@ -272,6 +281,7 @@ module _ (o : Ops) (p : Plan) (logs : ℕ) (P : Safe o p logs) (V : Live o p log
   abbrev Empty : Keep → Type 0
   Empty k = (k .batch ≡ none) × (k .waiting ≡ [])
 
+  -- any round
   round : (m : Mind) (f : ℕ → Box) (n tot : ℕ) → tot < P .bound → n + 12 * W0 f + C ≤ tot → B (idle o logs m) f n → Less (m .keep) tot ⊎ Empty (m .keep)
   round m f n tot tb bud a = by (m .keep .batch) (m .keep .waiting) refl refl
     where
@@ -305,6 +315,7 @@ module _ (o : Ops) (p : Plan) (logs : ℕ) (P : Safe o p logs) (V : Live o p log
   cost zero = C
   cost (suc j) = C + cost j
 
+  -- round after round, until nothing waits
   ends : (j : ℕ) (m : Mind) (f : ℕ → Box) (n tot : ℕ) → tot < P .bound → jobsIn (m .keep) ≤ j → n + 12 * W0 f + cost j ≤ tot → B (idle o logs m) f n → Rested tot
   ends zero m f n tot tb few bud a = ⊎-elim (λ d. absurd (let q = d .fewer in omega (arith, q, few))) (λ e. record { m = m; f = f; n = n; at' = a; empty = e; spent = omega (arith, bud) }) (round m f n (n + 12 * W0 f + C) (omega (arith, bud, tb)) (omega arith) a)
   ends (suc j) m f n tot tb few bud a = ⊎-elim (λ d. let q = d .fewer in let sp = d .spent in ends j (d .m) (d .f) (d .n) tot tb (omega (arith, q, few)) (omega (arith, sp, bud)) (d .at')) (λ e. record { m = m; f = f; n = n; at' = a; empty = e; spent = omega (arith, bud) })
@@ -329,6 +340,7 @@ module _ (o : Ops) (p : Plan) (logs : ℕ) (P : Safe o p logs) (V : Live o p log
       not-ltb (inr t) = t
   ahead-wrap (suc d) pl more l e ll = inr (subst₂ (λ a b. Ahead a b l) {x = suc (d + suc (l + more))} (omega arith) (sym (next-is pl (omega (arith, e)))) (ahead-wrap d (pl + 1) more l (omega (arith, e)) ll))
 
+  -- as many looks as there are logs come to every log
   ahead-all : (pl l : ℕ) → pl < logs → l < logs → Ahead logs pl l
   ahead-all pl l pp ll = ⊎-elim up wrap (cases-bool (ltb l pl))
     where
@@ -359,6 +371,7 @@ module _ (o : Ops) (p : Plan) (logs : ℕ) (P : Safe o p logs) (V : Live o p log
   to-rest : (m : Mind) (f : ℕ → Box) (n : ℕ) → (m .keep .batch ≡ none) × (m .keep .waiting ≡ []) → B (idle o logs m) f n → B (asks m none' rest) f n
   to-rest m f n e a = subst₂ (λ y z. B (idleBy o logs m y z) f n) (e .0) (e .1) a
 
+  -- then a look at every log
   full : (m : Mind) (f : ℕ → Box) (n tot : ℕ) → tot < P .bound → (m .keep .batch ≡ none) × (m .keep .waiting ≡ []) → n + 12 * W0 f + 12 * logs + 12 ≤ tot → B (readLedger o logs (looksAll m)) f n → Final tot
   full m f n tot tb e bud a =
       let d = ledger-done o p logs P V one all i c al lt es s tot tb (suc (logs + W0 f)) (looksAll m) f n (place-in (m .place)) a (omega arith) (omega (arith, bud)) in

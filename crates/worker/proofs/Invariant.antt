@@ -1,7 +1,7 @@
 -- The worker's invariant, over any book that keeps its laws, and that every step keeps it: a turn, a call, an answer of the store, a
 -- filling, a hand that goes or comes. All facts are about the past or only grow, so that what others do leaves them true: what a box
 -- held, what a page must hold, how far the ledger had come, which calls were made. Only the first lemmas of each part see the code.
-use mathlib.Core.Path.{_≡_, refl, sym, ap, subst, subst₂, fun-ext, _∙_}
+use mathlib.Core.Path.{_≡_, refl, sym, ap, subst, subst₂, _∙_}
 use mathlib.Core.Logic.{_⊎_, inl, inr, ⊎-elim}
 use mathlib.Core.Bool.{Bool, true, false, cond, _||_, _&&_, not}
 use mathlib.Core.List.{List, [], _∷_, _++_, List·Memᴰ, List·Memᴰ·head, List·Memᴰ·tail, Memᴰ·append-right, Memᴰ·append-left}
@@ -17,8 +17,8 @@ use Rattle.book.specs.Ledger.{logBox}
 use Rattle.book.specs.Book.{putAll}
 use Rattle.book.specs.Interface.{Gives, lacks, gives, Calls, nothing, alone, withPage, Next, page, reply, Filling, Ops, IsPage, Gathered, noPage, onePage, Tag}
 use Rattle.worker.specs.Worker.{stays, asks, keeping, hearing, looking, waits, fixed, settled', saying, forLog, yeses, isNothing, readLedger, startCall, startBy, start, idleBy, idle, settle, fillLog, putting, onLogBy, onPutBy, write, nextLog, onLedgerBy, onLedger, onPage, tookBy, gatherBy, gathers, onShown, onFilled, refuses, accepts, judges, acts, putsOf, isRest, worker, lessOne, Job, Batch, none, some, Phase, rest, log, put, ledger, page', written, kept, look, answer', gather, Keep, Mind, Told, Asks, none', show, fill, Step, keepIf, entries}
-use Rattle.worker.specs.Laws.{Right, Laws}
-use Rattle.shelf.proofs.Places.{all-cons, all-none, all-append, at-case, at-hands, not-here, at-self, at-one}
+use Rattle.worker.proofs.Laws.{Right, Laws}
+use Rattle.shelf.proofs.Places.{all-cons, all-none, all-append, at-case, at-hands, not-here, at-self, at-one, at-other, at-twice}
 use Rattle.shelf.proofs.Callers.{by, caller, caller-used, caller-stays, caller-new}
 use Rattle.shelf.proofs.History.{Kept}
 use Rattle.shelf.proofs.Numbers.{Fresh}
@@ -542,12 +542,6 @@ module _ (o : Ops) (p : Plan) (logs : ℕ) (L : Laws o p logs) where
 
   abbrev pub Filled' : View → (i c q b e : ℕ) → List ℕ → Type 0
   Filled' v i c q b e bs = (w : L .World) × (os : List (Open Call)) × (rs : List (Ready Reply)) × Good (filledView v i c q b e bs w os rs)
-
-  at-other : {A : Type 0} (b : ℕ) (x : A) (f : ℕ → A) (d : ℕ) → (d ≡ b → ⊥) → at b x f d ≡ f d
-  at-other b x f d ne = at-one (λ z. z ≡ f d) b x f d (λ y. absurd (ne y)) (λ y. refl)
-
-  at-twice : {A : Type 0} (b : ℕ) (x y : A) (f : ℕ → A) → at b x (at b y f) ≡ at b x f
-  at-twice b x y f = fun-ext (λ j. elim (eqb j b) as (λ t. cond t x (cond t y (f j)) ≡ cond t x (f j)) [ true ↦ refl | false ↦ refl ])
 
   module _ (v : View) (h : Good v) (small : v .co .n < L .bound) (i c q : ℕ) where
     stood-same : (b : ℕ) (bs : List ℕ) (x : Box) → ((l : ℕ) → b ≡ logBox l → ⊥) → (j d : ℕ) (m : Mind) → v .hand j ≡ here d m → Stood v b bs (at b x (v .co .f)) (v .co .opens) (v .co .readies) j d m

@@ -17,12 +17,14 @@ use Rattle.worker.specs.Worker.{Job, Told, Asks, none', show, fill, keepIf, en
 use Rattle.shelf.proofs.Places.{all-cons, all-none}
 use Rattle.shelf.proofs.Latelooks.{Less, less-of, less-rest, Loose, loose-done, loose-out}
 
+-- a call that is open in the book-keeper's book, a reply that is ready
 abbrev pub opening : (i k : ℕ) → Call → Open Call
 opening i k o = record { hand = i; number = k; call = o }
 
 abbrev pub readying : (i k : ℕ) → Reply → Ready Reply
 readying i k r = record { hand = i; number = k; reply = r }
 
+-- calls with numbers of their own
 abbrev pub Distinct : List Job → Type 0
 Distinct [] = Unit {0}
 Distinct (j ∷ js) = ((a : Job) → List·Memᴰ a js → j .number ≡ a .number → ⊥) × Distinct js
@@ -74,6 +76,7 @@ unfolding entries
 entries-ok l [] f = all-none (λ x. T (entryOk x))
 entries-ok l (j ∷ js) f = entries-one l (j .call) (entries js) (f j (List·Memᴰ·head refl)) (entries-ok l js (λ a m. f a (List·Memᴰ·tail m)))
 
+-- those that are kept and those that are not are all
 pub keep-split : (f g : Job → Bool) → ((j : Job) → g j ≡ not (f j)) → (js : List Job) → length (keepIf g js) + length (keepIf f js) ≡ length js
 unfolding keepIf
 keep-split f g e [] = omega arith
@@ -127,6 +130,7 @@ module _ (p : Plan) (logs : ℕ) where
   abbrev pub stateOf : List (List Entry) → State
   stateOf ls = record { logs = ls; dropped = 0 }
 
+  -- the book after the puts of a batch were done, one after the other: their replies are ready, other calls are still open
   pub record DoneAll (es : List (Seen Call Reply)) (ls : List (List Entry)) (os : List (Open Call)) (rs : List (Ready Reply)) (i : ℕ) (js : List Job) : Type 0 where
     pub opens : List (Open Call)
     pub readies : List (Ready Reply)
@@ -155,6 +159,7 @@ module _ (p : Plan) (logs : ℕ) where
         ready = all-cons (λ j. List·Memᴰ (readying i (j .number) Yes) (r .readies)) (r .still (readying i k Yes) (List·Memᴰ·head refl)) (r .ready);
       }
 
+  -- a batch is done at once
   pub done-all : (es : List (Seen Call Reply)) (i l : ℕ) (js : List Job) (ls : List (List Entry)) (os : List (Open Call)) (rs : List (Ready Reply)) → l < length ls → Distinct js → ((j : Job) → List·Memᴰ j js → IsPut l (j .call)) →
       ((j : Job) → List·Memᴰ j js → List·Memᴰ (opening i (j .number) (j .call)) os) → Loose K es (stateOf ls) os rs → DoneAll es (putAll l (entries js) ls) os rs i js
   unfolding entries putAll
@@ -162,6 +167,7 @@ module _ (p : Plan) (logs : ℕ) where
   done-all es i l (j ∷ js) ls os rs lt d h g lo = mutual-one es i l (j .number) (j .call) js ls os rs lt (h j (List·Memᴰ·head refl)) lo (g j (List·Memᴰ·head refl))
       (λ ls' os' rs' lt' le lo'. done-all es i l js ls' os' rs' lt' (d .1) (λ a m. h a (List·Memᴰ·tail m)) (λ a m. ⊎-elim (λ u. absurd (d .0 a m (sym (ap (λ v. v .number) u)))) (λ u. u) (less-rest le (g a (List·Memᴰ·tail m)))) lo') (d .0)
 
+  -- the book after the replies of a batch were told
   pub record TellAll (es : List (Seen Call Reply)) (ls : List (List Entry)) (os : List (Open Call)) (rs : List (Ready Reply)) (i : ℕ) (js : List Job) : Type 0 where
     pub readies : List (Ready Reply)
     pub loose : Loose K es (stateOf ls) os readies
@@ -172,6 +178,7 @@ unfoldable pub tolds : ℕ → List Told → List (Seen Call Reply)
 tolds i [] = []
 tolds i (t ∷ ts) = told i (t .number) (t .reply) ∷ tolds i ts
 
+-- what is told and asked by a step, as what customers see and as what is under way
 abbrev pub waysOf : (i c q : ℕ) → Asks → List (Way ℕ)
 waysOf i c q none' = []
 waysOf i c q (show b) = wantsBox i c q b ∷ []
@@ -192,6 +199,7 @@ sent-are i c q [] (fill b e bs) = refl
 sent-are i c q (t ∷ ts) a = sent-are i c q ts a
 
 module _ (p : Plan) (logs : ℕ) where
+  -- a batch is told at once
   pub tell-all : (es : List (Seen Call Reply)) (i : ℕ) (js : List Job) (ls : List (List Entry)) (os : List (Open Call)) (rs : List (Ready Reply)) → Distinct js → ((j : Job) → List·Memᴰ j js → List·Memᴰ (readying i (j .number) Yes) rs) →
       Loose (K p logs) es (stateOf p logs ls) os rs → TellAll p logs (tolds i (yeses js) ++ es) ls os rs i js
   unfolding tolds yeses

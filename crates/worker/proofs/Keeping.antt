@@ -30,6 +30,7 @@ yes-in (a ∷ ps) j (List·Memᴰ·tail m) = List·Memᴰ·tail (yes-in ps j m)
 abbrev Stays : ℕ → Step → Type 0
 Stays k r = HasK (r .mind .keep) k ⊎ ((y : Reply) × List·Memᴰ (record { number = k; reply = y }) (r .tell))
 
+-- a call in mind stays there or is told
 keeps-of : (x : In ℕ Call) (m : Mind) (r : Step) (k : ℕ) → Can' x m r → HasK (m .keep) k → Stays k r
 keeps-of x m r k (keeps t e) h = inl (subst (λ z. HasK z k) (sym e) h)
 keeps-of x m r k (fixes l t e nb) (inr z) = absurd (none-some (sym nb ∙ z .2))
@@ -83,9 +84,11 @@ told-of : (k : ℕ) (r : Step) → Stays k r → HasK (r .mind .keep) k ⊎ ((y 
 told-of k r (inl h) = inl h
 told-of k r (inr h) = inr (h .0, tell-in (r .tell) (asking' (r .mind .asked) (r .ask)) k (h .0) (h .1))
 
+-- a turn lets go of no call untold
 pub worker-keeps-calls : (o : Ops) (logs : ℕ) (x : In ℕ Call) (m : Mind) (k : ℕ) → HasM m k → HasM (worker o logs .turns x m .mind) k ⊎ ((y : Reply) × List·Memᴰ (Tell k y) (worker o logs .turns x m .does))
 worker-keeps-calls o logs x m k h = told-of k (acts o logs x m) (keeps-of x m (acts o logs x m) k (can o logs x m) h)
 
+-- and takes every call to mind, or tells it
 pub worker-takes-calls : (o : Ops) (logs : ℕ) (c : Call) (m : Mind) (k : ℕ) → HasM (worker o logs .turns (Ask k c) m .mind) k ⊎ ((y : Reply) × List·Memᴰ (Tell k y) (worker o logs .turns (Ask k c) m .does))
 worker-takes-calls o logs c m k = told-of k (acts o logs (Ask k c) m) (takes o logs c m k)
 
@@ -100,6 +103,7 @@ module _ {M O R : Type 0} where
   settled-or i k (Tell n y ∷ os) ws m = ⊎-elim (λ t. inr (y, List·Memᴰ·head (ap (λ z. told i z y) (sym (eqb-true n k t)))))
       (λ t. ⊎-elim (λ z. inl z) (λ z. inr (z .0, List·Memᴰ·tail (z .1))) (settled-or i k os _ (stay-without i n ws (record { hand = i; number = k }) m (λ _ z. eqb-false n k t z)))) (cases-bool (eqb n k))
 
+  -- what waited still waits, or was told
   pub alone-waits : {h : Hand M O R} {i : ℕ} {s t : Scene (h .Mind) M} {fs : List (Seen O R)} → Alone h i s fs t → (k : ℕ) → List·Memᴰ (record { hand = i; number = k }) (s .waits) → List·Memᴰ (record { hand = i; number = k }) (t .waits) ⊎ ((r : R) × List·Memᴰ (told i k r) fs)
   alone-waits stay k m = inl m
   alone-waits {h = h} {i = i} (turn {es = es} {t = t} c v x new a e w cm) k m = ⊎-elim (λ z. ⊎-elim (λ y. inl y) (λ y. inr (y .0, Memᴰ·append-left es (y .1))) (settled-or i k (h .turns x v .does) (t .waits) z)) (λ z. inr (z .0, Memᴰ·append-right (tells i (h .turns x v .does)) (z .1))) (alone-waits a k m)

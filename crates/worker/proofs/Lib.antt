@@ -1,3 +1,4 @@
+pub mod Laws
 pub mod Jobs
 pub mod Invariant
 pub mod Onebook

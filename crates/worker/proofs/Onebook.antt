@@ -5,7 +5,7 @@ use mathlib.Core.Bool.{Bool, true, false, cond, _||_, _&&_, not}
 use mathlib.Core.List.{List, [], _∷_, _++_}
 use Prim.Native.Nat.{ℕ, suc, _+_, _≤_, _<_}
 use native.Mathlib.Omega.{arith}
-use lib.Dec.{eqb, ltb, leb, T}
+use lib.Dec.{eqb, ltb, leb}
 use lib.ListN.{length}
 use Rattle.std.proofs.shelf.Tests.{cond-both}
 use Rattle.streams.specs.Meaning.{Event, Plan}
@@ -14,9 +14,9 @@ use Rattle.streams.specs.Hands.{Box, In, From, Shown, Filled, Ask, Beat, wantsF
 use Rattle.book.specs.Ledger.{logBox}
 use Rattle.book.specs.Interface.{Gives, lacks, gives, Calls, nothing, alone, withPage, Next, page, reply, Filling, Ops}
 use Rattle.worker.specs.Worker.{Job, Batch, none, some, Phase, rest, log, put, ledger, page', written, kept, look, answer', gather, Keep, Mind, Told, Asks, none', show, fill, Step, keepIf, entries, stays, asks, keeping, hearing, looking, waits, fixed, settled', forLog, isNothing, readLedger, startCall, startBy, start, idleBy, idle, settle, fillLog, putting, onLogBy, onPutBy, write, nextLog, onLedgerBy, tookBy, gatherBy, gathers, onShown, onFilled, refuses, accepts, judges, acts, putsOf, isRest, telling, asking', turnOf, worker, lessOne}
-use Rattle.worker.specs.Laws.{Laws}
+use Rattle.worker.proofs.Laws.{Laws}
 use Rattle.shelf.specs.Moments.{Rises}
-use Rattle.shelf.proofs.Places.{not-here, fillable-edition}
+use Rattle.shelf.proofs.Places.{not-here, fillable-edition, is-false}
 use Rattle.shelf.proofs.History.{past}
 use Rattle.shelf.proofs.Numbers.{fresh}
 use Rattle.shelf.proofs.Latelooks.{Loose}
@@ -150,17 +150,15 @@ module _ (o : Ops) (logs : ℕ) where
   up-acts (Ask k c) m = cond-both (ltb (length (m .keep .waiting) + putsOf (m .keep .batch)) 8) (judges o logs m k c) (refuses o logs m k 11) (Up (m .asked)) (λ t. up-judge m k c) (λ t. up-stays m)
   up-acts Beat m = cond-both (isRest (m .phase) || not (m .heard)) (start o logs (hearing m false)) (stays (hearing m false)) (Up (m .asked)) (λ t. up-start (hearing m false) (m .keep .batch) (m .keep .waiting)) (λ t. up-stays (hearing m false))
 
+  -- the numbers of requests rise in each turn
   pub worker-rises : (x : In ℕ Call) (m : Mind) → Rises (m .asked) (worker o logs .turns x m .does) (worker o logs .turns x m .mind .asked)
   worker-rises x m = rises-of (m .asked) (acts o logs x m .tell) (acts o logs x m) (up-acts x m)
-
-no-use : (b : Bool) → T (not b) → b ≡ false
-no-use true t = absurd t
-no-use false t = refl
 
 module _ (o : Ops) (p : Plan) (logs : ℕ) (L : Laws o p logs) where
   abbrev pub viewOf : (n : ℕ) (w : L .World) (es : List (Seen Call Reply)) (os : List (Open Call)) (rs : List (Ready Reply)) (h : ℕ → ℕ → List ℕ) → Scene Mind ℕ → View o p logs L
   viewOf n w es os rs h s = record { w = w; co = record { n = n; seen = es; opens = os; readies = rs; past = h; f = s .box; drawn = s .drawn }; hand = s .hand; ways = s .ways }
 
+  -- there is a world and a book of what customers saw for which the invariant holds
   abbrev pub Inv : (n : ℕ) (es : List (Seen Call Reply)) (h : ℕ → ℕ → List ℕ) → Scene Mind ℕ → Type 0
   Inv n es h s = (w : L .World) × (os : List (Open Call)) × (rs : List (Ready Reply)) × Good o p logs L (viewOf n w es os rs h s)
 
@@ -177,6 +175,7 @@ module _ (o : Ops) (p : Plan) (logs : ℕ) (L : Laws o p logs) where
         (sym (tells-are i (r .mind .asked) (r .tell) (r .ask))) (sym (sent-are i c (r .mind .asked) (r .tell) (r .ask))) (t .2),
   )
 
+  -- at the beginning
   first-good : Good o p logs L (viewOf 0 (L .start) [] [] [] (λ b e. []) (record { hand = λ i. away; box = λ b. record { edition = 0; bytes = [] }; ways = []; waits = []; drawn = [] }))
   first-good = record {
     sound = L .starts;
@@ -188,19 +187,21 @@ module _ (o : Ops) (p : Plan) (logs : ℕ) (L : Laws o p logs) where
     hands = λ i d m y. absurd (not-here y);
   }
 
+  -- after whatever has come to be
   pub inv : {all n : ℕ} {es : List (Seen Call Reply)} {s : Scene Mind ℕ} → all ≤ 64 → n < L .bound → (g : Goes (worker o logs) all n es s) → Inv n es (past g) s
   unfolding past
   inv al sm first = (L .start, [], [], first-good)
   inv al sm (turns {n = n} {es = es} {s = s} i c m x lt g e k) = let v = inv al (omega arith) g in
       let t = turn-inv n (v .0) es (past g) s i c (acts o logs x m) es (v .1) (v .2) (turn-ok o p logs L (vu n es (past g) s v) (v .3) sm i c m e (History.kept g) (fresh (worker o logs) (λ m. m .asked) (worker-rises o logs) g) k) in (v .0, t .0, t .1, t .2)
   inv al sm (asked {n = n} {es = es} {s = s} i c k x m lt lt' g e new) = let v = inv al (omega arith) g in
-      let t = turn-inv n (v .0) es (past g) s i c (acts o logs (Ask k x) m) (called i k x ∷ es) (v .1) (v .2) (call-ok o p logs L (vu n es (past g) s v) (v .3) sm i c m e (History.kept g) (fresh (worker o logs) (λ m. m .asked) (worker-rises o logs) g) k x (no-use (isUsed k es) new)) in (v .0, t .0, t .1, t .2)
+      let t = turn-inv n (v .0) es (past g) s i c (acts o logs (Ask k x) m) (called i k x ∷ es) (v .1) (v .2) (call-ok o p logs L (vu n es (past g) s v) (v .3) sm i c m e (History.kept g) (fresh (worker o logs) (λ m. m .asked) (worker-rises o logs) g) k x (is-false (isUsed k es) new)) in (v .0, t .0, t .1, t .2)
   inv al sm (showsBox {n = n} {es = es} {s = s} i c k b g w) = let v = inv al (omega arith) g in (v .0, v .1, v .2, answer-quiet o p logs L (vu n es (past g) s v) (v .3) (shows i c k (s .box b)) (λ w co f. tt))
   inv al sm (fills {n = n} {es = es} {s = s} i c k b e bs g w t) = let v = inv al (omega arith) g in
       fill-ok o p logs L (vu n es (past g) s v) (v .3) (omega arith) i c k b e bs (fillable-edition (s .box b) e bs t) (v .3 .facts (wantsFill i c k b e bs) w)
   inv al sm (doesntFill {n = n} {es = es} {s = s} i c k b e bs g w t) = let v = inv al (omega arith) g in (v .0, v .1, v .2, answer-quiet o p logs L (vu n es (past g) s v) (v .3) (says i c k false (s .box b .edition)) (λ w co f. tt))
   inv al sm (goes {n = n} {es = es} {s = s} i c m lt g e) = let v = inv al (omega arith) g in (v .0, v .1, v .2, gone-quiet o p logs L (vu n es (past g) s v) (v .3) i)
-  inv al sm (comes {n = n} {es = es} {s = s} i r lt lt' new g e) = let v = inv al (omega arith) g in (v .0, v .1, v .2, come-quiet o p logs L (vu n es (past g) s v) (v .3) i r (omega arith) lt' (no-use (isIn r (s .drawn)) new))
+  inv al sm (comes {n = n} {es = es} {s = s} i r lt lt' new g e) = let v = inv al (omega arith) g in (v .0, v .1, v .2, come-quiet o p logs L (vu n es (past g) s v) (v .3) i r (omega arith) lt' (is-false (isIn r (s .drawn)) new))
 
+  -- so there is a book-keeper's book
   pub worker-book : {all n : ℕ} {es : List (Seen Call Reply)} {s : Scene Mind ℕ} → all ≤ 64 → n < L .bound → Goes (worker o logs) all n es s → (t : State) × (os : List (Open Call)) × (rs : List (Ready Reply)) × Book (K p logs) es t os rs
   worker-book al sm g = let v = inv al sm g in let b = v .3 .loose in (stateOf p logs (L .logsOf (v .0)), b .opens, b .readies, b .book)

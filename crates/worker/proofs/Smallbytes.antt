@@ -1,4 +1,4 @@
--- Numbers in bytes.
+-- Numbers in bytes, low byte first: what is put at a place is read there, and elsewhere nothing changes. For the small book.
 use mathlib.Core.Path.{_≡_, refl, sym, ap, ap₂, _∙_}
 use mathlib.Core.Logic.{_⊎_, inl, inr, ⊎-elim}
 use mathlib.Core.Bool.{true, _&&_}

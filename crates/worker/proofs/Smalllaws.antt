@@ -1,7 +1,7 @@
 -- The small book keeps Safe and Live, and answers all that there is of plans of which nothing comes out.
 use mathlib.Core.Path.{_≡_, refl, sym, ap, ap₂, subst, _∙_}
 use mathlib.Core.Logic.{_⊎_, inl, inr}
-use mathlib.Core.Bool.{Bool, true, false, _&&_, not}
+use mathlib.Core.Bool.{Bool, true, false, not}
 use mathlib.Core.List.{List, [], _∷_, List·Memᴰ, List·Memᴰ·head, List·Memᴰ·tail}
 use Prim.Native.Nat.{ℕ, zero, suc, _+_, _*_, _≤_, _<_}
 use native.Mathlib.Omega.{arith}
@@ -15,20 +15,16 @@ use Rattle.book.specs.Ledger.{logBox}
 use Rattle.book.specs.Interface.{gives, withPage, reply, Filling, IsPage, Safe, Now, Stays}
 use Rattle.book.specs.Live.{Live}
 use Rattle.worker.specs.Theorems.{KeepsInterface}
-use Rattle.worker.specs.Small.{smallHas, smallAdds, smallDue, smallAfter, smallPages, smallTake, smallDiffers, small, smalls, Silent, SmallWhole}
-use Rattle.shelf.proofs.Places.{at-self, at-one}
+use Rattle.worker.specs.Small.{smallHas, smallAdds, smallDue, smallAfter, smallPages, smallTake, smallDiffers, small, smalls, SmallWithin, Silent, SmallWhole}
+use Rattle.shelf.proofs.Places.{at-self, at-one, at-other}
 use Rattle.worker.proofs.Invariant.{log-some}
 use Rattle.worker.proofs.Smallbytes.{length-adds, bytes-adds, small-none, small-new, small-mine, small-other}
+use Rattle.worker.proofs.Comesout.{worker-within}
 use Rattle.worker.proofs.Together.{worker-whole}
-
-abbrev Fits : List ℕ → Type 0
-Fits x = T (leb (length x) 1048576 && allBytes x)
+use Rattle.shelf.proofs.Scripts.{Fits}
 
 fits-of : (x : List ℕ) → length x ≤ 1024 → allBytes x ≡ true → Fits x
 fits-of x le b = subst T (sym (and-from (leb (length x) 1048576) (allBytes x) (le-leb (length x) 1048576 (omega (arith, le))) b)) tt
-
-other : {A : Type 0} (b : ℕ) (x : A) (f : ℕ → A) (d : ℕ) → (d ≡ b → ⊥) → at b x f d ≡ f d
-other b x f d ne = at-one (λ z. z ≡ f d) b x f d (λ y. absurd (ne y)) (λ y. refl)
 
 abbrev Spent' : List ℕ → ℕ → Type 0
 Spent' [] b = ⊥
@@ -53,20 +49,20 @@ six = (λ e. omega (arith, e), λ l e. omega (arith, e))
 fine-other : (f : ℕ → Box) (d : ℕ) (y : Box) → Fine f → Few (y .bytes) → 1 ≤ y .edition → (d ≡ 0 → ⊥) → Fine (at d y f)
 fine-other f d y h fw ed no0 = record {
   few = λ b. at-one (λ z. Few (z .bytes)) d y f b (λ _. fw) (λ _. h .few b);
-  spent = λ b s. let t = h .spent b (subst (λ z. Spent' (z .bytes) b) (other d y f 0 (λ z. no0 (sym z))) s) in (t .0, at-one (λ z. 1 ≤ z .edition) d y f b (λ _. ed) (λ _. t .1));
+  spent = λ b s. let t = h .spent b (subst (λ z. Spent' (z .bytes) b) (at-other d y f 0 (λ z. no0 (sym z))) s) in (t .0, at-one (λ z. 1 ≤ z .edition) d y f b (λ _. ed) (λ _. t .1));
 }
 
 fine-led : (f : ℕ → Box) (y : Box) → Fine f → Few (y .bytes) → ((b : ℕ) → Spent' (y .bytes) b → IsPage b × (1 ≤ f b .edition)) → Fine (at 0 y f)
 fine-led f y h fw sp = record {
   few = λ b. at-one (λ z. Few (z .bytes)) 0 y f b (λ _. fw) (λ _. h .few b);
-  spent = λ b s. let t = sp b (subst (λ z. Spent' (z .bytes) b) (at-self 0 y f) s) in (t .0, subst (λ z. 1 ≤ z .edition) (sym (other 0 y f b (t .0 .0))) (t .1));
+  spent = λ b s. let t = sp b (subst (λ z. Spent' (z .bytes) b) (at-self 0 y f) s) in (t .0, subst (λ z. 1 ≤ z .edition) (sym (at-other 0 y f b (t .0 .0))) (t .1));
 }
 
 abbrev Keeps : (ls : List (List Entry)) (f : ℕ → Box) (ls' : List (List Entry)) (f' : ℕ → Box) → Type 0
 Keeps ls f ls' f' = Stays (λ ls f x. Unit {0}) (λ ls f l x. Unit {0}) (λ ls f x. Unit {0}) Spent' ls f ls' f'
 
 keeps-other : (ls ls' : List (List Entry)) (f : ℕ → Box) (d : ℕ) (y : Box) → (d ≡ 0 → ⊥) → Keeps ls f ls' (at d y f)
-keeps-other ls ls' f d y no0 = record { ledger = λ x h. tt; log = λ l x h. tt; floor = λ x h. tt; spent = λ b h. subst (λ z. Spent' (z .bytes) b) (sym (other d y f 0 (λ z. no0 (sym z)))) h }
+keeps-other ls ls' f d y no0 = record { led = λ x h. tt; log = λ l x h. tt; floor = λ x h. tt; spent = λ b h. subst (λ z. Spent' (z .bytes) b) (sym (at-other d y f 0 (λ z. no0 (sym z)))) h }
 
 keeps-led : (ls : List (List Entry)) (f : ℕ → Box) (y : Box) → ((b : ℕ) → Spent' (f 0 .bytes) b → Spent' (y .bytes) b) → Keeps ls f ls (at 0 y f)
 keeps-led ls f y s = record { ledger = λ x h. tt; log = λ l x h. tt; floor = λ x h. tt; spent = λ b h. subst (λ z. Spent' (z .bytes) b) (sym (at-self 0 y f)) (s b h) }
@@ -306,6 +302,11 @@ no-cells (e ∷ es) = no-cells es
 silent : (ls : List (List Entry)) → out (record { late = 0; stages = deaf ∷ [] }) ls ≡ []
 unfolding throughAll ended eventsOf
 silent ls = ap (λ z. eventsOf (ended (mark 0 ls) z)) (no-cells (allInTime 0 ls))
+
+pub small-within : SmallWithin
+unfolding small-live
+small-within p logs one lg all n al sm es s g i c m lt e = let r = worker-within small p logs (small-plain p logs lg) (small-live p logs lg) one all n al sm es s g i c m lt e in
+    (r .0, r .1, r .2, r .3, r .4, (let q = r .5 in let w = work-most (s .box 0 .bytes) in omega (arith, q, w)), r .6)
 
 -- the small book keeps the interface
 pub small-keeps : KeepsInterface Silent smalls

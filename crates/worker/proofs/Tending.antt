@@ -1,40 +1,27 @@
 -- The worker alone looks after the ledger: it comes to where nothing is due and all logs that it was to look at are taken.
-use mathlib.Core.Path.{_≡_, refl, sym, ap, ap₂, subst, subst₂, fun-ext, _∙_}
+use mathlib.Core.Path.{_≡_, refl, sym, ap, ap₂, subst, subst₂, _∙_}
 use mathlib.Core.Logic.{_⊎_, inl, inr, ⊎-elim}
 use mathlib.Core.Bool.{Bool, true, false, cond, _&&_, _||_, not}
 use mathlib.Core.List.{List, [], _∷_, _++_, List·Memᴰ, List·Memᴰ·head, List·Memᴰ·tail}
 use Prim.Native.Nat.{ℕ, zero, suc, _+_, _*_, _≤_, _<_}
 use native.Mathlib.Omega.{arith}
-use lib.Dec.{eqb, ltb, leb, T}
+use lib.Dec.{eqb, ltb}
 use lib.ListN.{length}
 use Rattle.std.proofs.shelf.Tests.{eqb-true, eqb-false, eq-eqb, ne-eqb, lt-ltb, ltb-true, and-from, and-right, or-right, not-from-true, not-from-false, cond-true, cond-false, cond-both, cases-bool, both-ways}
 use Rattle.streams.specs.Meaning.{Entry, Plan}
 use Rattle.streams.specs.Calls.{Call, Reply}
-use Rattle.streams.specs.Hands.{Box, wantsFill, Seen, at, Scene, allBytes}
-use Rattle.book.specs.Ledger.{logBox}
-use Rattle.book.specs.Interface.{Gives, lacks, gives, Calls, nothing, alone, withPage, Filling, Ops, Safe, Now}
+use Rattle.streams.specs.Hands.{Box, wantsFill, Seen, at, Scene}
+use Rattle.interface.specs.Ops.{Gives, lacks, gives, Due, nothing, alone, withPage, Page, Ops, logBox}
 use Rattle.worker.specs.Worker.{ledger, page', written, kept, look, Keep, Mind, show, fill, Step, asks, hearing, looking, isNothing, readLedger, idle, write, nextLog, onLedgerBy, tookBy, onFilled, lessOne}
-use Rattle.book.specs.Live.{Live}
-use Rattle.shelf.proofs.Places.{at-self, at-one}
+use Rattle.interface.specs.Plain.{Plain, Now}
+use Rattle.interface.specs.Live.{Live}
+use Rattle.shelf.proofs.Places.{at-self, at-other, at-twice}
 use Rattle.shelf.proofs.History.{past}
 use Rattle.worker.proofs.Invariant.{fill-ok, log-some}
 use Rattle.worker.proofs.Onebook.{inv, viewOf}
-use Rattle.worker.proofs.Plainlaws.{plain-laws}
+use Rattle.worker.proofs.Plainlaws.{plain-laws, now-on}
 use Rattle.worker.proofs.Alone.{At, mid-in, Wanted, see, pour, miss}
-
-abbrev Fits : List ℕ → Type 0
-Fits x = T (leb (length x) 1048576 && allBytes x)
-
-pub other : {A : Type 0} (b : ℕ) (x : A) (f : ℕ → A) (d : ℕ) → (d ≡ b → ⊥) → at b x f d ≡ f d
-other b x f d ne = at-one (λ z. z ≡ f d) b x f d (λ y. absurd (ne y)) (λ y. refl)
-
-twice : {A : Type 0} (b : ℕ) (x y : A) (f : ℕ → A) → at b x (at b y f) ≡ at b x f
-twice b x y f = fun-ext (λ j. elim (eqb j b) as (λ t. cond t x (cond t y (f j)) ≡ cond t x (f j)) [ true ↦ refl | false ↦ refl ])
-
-now-on : (f g : ℕ → Box) (d : Calls) (x : List ℕ) → ((b : ℕ) → d ≡ withPage b → g b .bytes ≡ f b .bytes) → Now f d x → Now g d x
-now-on f g nothing x e y = y
-now-on f g alone x e y = y
-now-on f g (withPage b) x e y = e b refl ∙ y
+use Rattle.shelf.proofs.Scripts.{Fits}
 
 module _ (o : Ops) (p : Plan) (logs : ℕ) (P : Safe o p logs) (V : Live o p logs P) (one : 1 ≤ logs) (all i c : ℕ) (al : all ≤ 64) (lt : i < all) (es : List (Seen Call Reply)) (s : Scene Mind ℕ) where
   abbrev pub A : Step → (ℕ → Box) → ℕ → Type 0
@@ -60,13 +47,16 @@ module _ (o : Ops) (p : Plan) (logs : ℕ) (P : Safe o p logs) (V : Live o p log
   abbrev pub next : ℕ → ℕ
   next pl = cond (ltb (pl + 1) logs) (pl + 1) 0
 
+  -- a log that is still to be looked at, with so many left from a place on
   abbrev pub ahead : (left place log : ℕ) → Type 0
   ahead zero pl l = ⊥
   ahead (suc k) pl l = (l ≡ pl) ⊎ ahead k (next pl) l
 
+  -- a log that is looked at later, or is taken already
   abbrev pub Todo : (left place : ℕ) → List ℕ → (ℕ → Box) → ℕ → Type 0
   Todo k pl y f l = ahead k pl l ⊎ V .Took y l (f (logBox l) .bytes)
 
+  -- the end of it: nothing is due, what is kept is as it was, log boxes are as they were, and each log of some kind is taken
   pub record Done (k : Keep) (f0 : ℕ → Box) (tot : ℕ) (Q : ℕ → Type 0) : Type 0 where
     pub m : Mind
     pub f : ℕ → Box
@@ -84,6 +74,7 @@ module _ (o : Ops) (p : Plan) (logs : ℕ) (P : Safe o p logs) (V : Live o p log
   done-on e q d = record { m = d .m; f = d .f; n = d .n; at' = d .at'; keep = d .keep; same = λ l. d .same l ∙ e l; idle' = d .idle'; fl = d .fl; floor = d .floor; took = λ l u v. d .took l u (q l u v); spent = d .spent }
 
   module _ (tot : ℕ) (tb : tot < P .bound) where
+    -- THE MEASURE: with less of `left + work` than so much, whatever the mind, it ends; twelve steps for each
     abbrev Rec : ℕ → Type 0
     Rec k = (m : Mind) (f : ℕ → Box) (n : ℕ) → m .place < logs → A (readLedger o logs m) f n → m .left + V .work (f 0 .bytes) f < k → n + 12 * (m .left + V .work (f 0 .bytes) f) + 12 ≤ tot →
         Done (m .keep) f tot (Todo (m .left) (m .place) (f 0 .bytes) f)
@@ -108,7 +99,7 @@ module _ (o : Ops) (p : Plan) (logs : ℕ) (P : Safe o p logs) (V : Live o p log
         w1 = ap (λ z. V .work z f1) e0 ∙ V .work-led y (record { edition = e + 1; bytes = y }) f
 
         logs-same : (l : ℕ) → f1 (logBox l) ≡ f (logBox l)
-        logs-same l = other 0 (record { edition = e + 1; bytes = y }) f (logBox l) (log-some l)
+        logs-same l = at-other 0 (record { edition = e + 1; bytes = y }) f (logBox l) (log-some l)
 
     -- a step's pages, and the step
     writes : (k : ℕ) → Rec k → (ts : List Filling) (m : Mind) (f : ℕ → Box) (n e : ℕ) (led x : List ℕ) → m .place < logs → e ≡ f 0 .edition → f 0 .bytes ≡ led → Now f (o .due led) x → ((a : Filling) → List·Memᴰ a ts → List·Memᴰ a (o .pages led x)) →
@@ -146,10 +137,10 @@ module _ (o : Ops) (p : Plan) (logs : ℕ) (P : Safe o p logs) (V : Live o p log
         now' = subst (λ z. Now f (o .due z) x) (sym is) now
 
         e0 : f1 0 ≡ f 0
-        e0 = other (t .box) (record { edition = 1; bytes = t .bytes }) f 0 (λ z. pg .0 (sym z))
+        e0 = at-other (t .box) (record { edition = 1; bytes = t .bytes }) f 0 (λ z. pg .0 (sym z))
 
         logs-same : (l : ℕ) → f1 (logBox l) ≡ f (logBox l)
-        logs-same l = other (t .box) (record { edition = 1; bytes = t .bytes }) f (logBox l) (λ z. pg .1 l (sym z))
+        logs-same l = at-other (t .box) (record { edition = 1; bytes = t .bytes }) f (logBox l) (λ z. pg .1 l (sym z))
 
         Again : Type 0
         Again = (m : Mind) (f : ℕ → Box) (n e : ℕ) (led x : List ℕ) → m .place < logs → e ≡ f 0 .edition → f 0 .bytes ≡ led → Now f (o .due led) x → ((a : Filling) → List·Memᴰ a ts → List·Memᴰ a (o .pages led x)) →
@@ -166,8 +157,8 @@ module _ (o : Ops) (p : Plan) (logs : ℕ) (P : Safe o p logs) (V : Live o p log
             wk = subst (λ z. V .work z f1 ≤ V .work z f) is (V .work-page (omega (arith, bud2, tb)) (sd .1) x now' t (subst (λ z. List·Memᴰ t (o .pages z x)) (sym is) (sub t (List·Memᴰ·head refl))) (sym ed0))
 
             now1 : Now f1 (o .due led) x
-            now1 = now-on f f1 (o .due led) x (λ b d. ap (λ z. z .bytes) (other (t .box) (record { edition = 1; bytes = t .bytes }) f b
-                (λ z. let q = P .laws .spent-filled (sd .1) b (P .laws .due-spent (sd .1) b (ap (o .due) is ∙ d)) .1 in let u : f b .edition ≡ 0 = ap (λ w. f w .edition) z ∙ sym ed0 in omega (arith, q, u)))) now
+            now1 = now-on f f1 (o .due led) x (λ b d. ap (λ z. z .bytes) (at-other (t .box) (record { edition = 1; bytes = t .bytes }) f b
+                (λ z. let q = P .spent-filled (sd .1) b (P .due-spent (sd .1) b (ap (o .due) is ∙ d)) .1 in let u : f b .edition ≡ 0 = ap (λ w. f w .edition) z ∙ sym ed0 in omega (arith, q, u)))) now
         go again (inr y) = again m1 f (suc (suc n)) e led x pl ed is now (λ a z. sub a (List·Memᴰ·tail z)) (miss o logs all i c lt es s (t .box) 0 (t .bytes) refl (eqb-false 0 (f (t .box) .edition) y) a) ms (omega (arith, bud)) (omega (arith, bud2))
 
     -- what is in hand, while logs are looked at: the ledger as it is, or another that is still to be filled
@@ -211,7 +202,7 @@ module _ (o : Ops) (p : Plan) (logs : ℕ) (P : Safe o p logs) (V : Live o p log
       e0 = ap (λ z. z .bytes) (at-self 0 (record { edition = f 0 .edition + 1; bytes = y }) f)
 
       el : (k : ℕ) → f1 (logBox k) .bytes ≡ f (logBox k) .bytes
-      el k = ap (λ z. z .bytes) (other 0 (record { edition = f 0 .edition + 1; bytes = y }) f (logBox k) (log-some k))
+      el k = ap (λ z. z .bytes) (at-other 0 (record { edition = f 0 .edition + 1; bytes = y }) f (logBox k) (log-some k))
 
       d1 : o .due (f1 0 .bytes) ≡ nothing
       d1 = ap (o .due) e0 ∙ d
@@ -225,7 +216,7 @@ module _ (o : Ops) (p : Plan) (logs : ℕ) (P : Safe o p logs) (V : Live o p log
       look-took : (x : List ℕ) → o .take y l (f (logBox l) .bytes) ≡ gives x → Took1 f n l y x
       look-took x e = record {
         ls = ls;
-        sound = subst (P .Sound n ls) (twice 0 (record { edition = f 0 .edition + 1; bytes = x }) (record { edition = f 0 .edition + 1; bytes = y }) f) (P .laws .take-ok (f 0 .edition) l (f1 (logBox l) .bytes) x sm sd d1 ll (P .laws .log-now sd l) (take1 (gives x) e) .0);
+        sound = subst (P .Sound n ls) (at-twice 0 (record { edition = f 0 .edition + 1; bytes = x }) (record { edition = f 0 .edition + 1; bytes = y }) f) (P .take-ok (f 0 .edition) l (f1 (logBox l) .bytes) x sm sd d1 ll (P .log-now sd l) (take1 (gives x) e) .0);
         less = λ t. subst₂ (λ a b. a < b) (V .work-led x (record { edition = f 0 .edition + 1; bytes = y }) f) (ap (λ z. V .work z f1) e0 ∙ V .work-led y (record { edition = f 0 .edition + 1; bytes = y }) f)
             (V .work-take sm sd d1 l x ll (take1 (gives x) e) (ap (λ z. o .differs z x) e0 ∙ t));
         took = λ z. subst (V .Took x l) (el l) (V .took-take sm sd d1 l x ll (take1 (gives x) e) z);
@@ -254,6 +245,7 @@ module _ (o : Ops) (p : Plan) (logs : ℕ) (P : Safe o p logs) (V : Live o p log
     next-in : (pl : ℕ) → next pl < logs
     next-in pl = cond-both (ltb (pl + 1) logs) (pl + 1) 0 (λ z. z < logs) (λ t. ltb-true (pl + 1) logs t) (λ t. omega (arith, one))
 
+    -- the logs that are left are looked at: each is taken, or makes a step due, which is done first
     looks : (k : ℕ) → Rec k → (j : ℕ) (m : Mind) → m .left ≡ j → m .place < logs → (f : ℕ → Box) (n : ℕ) (y : List ℕ) (ch : Bool) → A (nextLog o logs m (f 0 .edition) y ch) f n →
         (ls : List (List Entry)) → P .Sound n ls (at 0 (record { edition = f 0 .edition + 1; bytes = y }) f) → o .due y ≡ nothing → Pend k m f n y ch → Done (m .keep) f tot (Todo j (m .place) y f)
     looks k rec zero m lf pl f n y ch a ls sd d h = done-on (λ l. refl) (λ l u v. ⊎-elim (λ z. absurd z) (λ z. z) v)
@@ -307,6 +299,7 @@ module _ (o : Ops) (p : Plan) (logs : ℕ) (P : Safe o p logs) (V : Live o p log
                 done-on (λ l. refl) (λ l w v. ⊎-elim (λ z. inl (subst (λ b. ahead b (m .place) l) (sym lf) z)) (λ z. inr (T1 .others l z)) v)
                 (refilled k rec m2 f (suc (suc n)) e x pl (subst (λ z. A z f (suc (suc n))) (cond-false (isNothing (o .due x)) goes-on stops-here u ∙ cond-true (ch || o .differs y x) (asks m2 (fill 0 e x) kept) (readLedger o logs m2) (or-right ch (o .differs y x) df)) a2) refl (q .0) (q .1))
 
+    -- so it ends, by that measure
     pub ledger-done : (k : ℕ) → Rec k
     ledger-done zero m f n pl a ms bud = absurd (omega (arith, ms))
     ledger-done (suc k) m f n pl a ms bud = by (ledger-done k) (o .due (f 0 .bytes)) refl (see o logs all i c lt es s 0 refl a)

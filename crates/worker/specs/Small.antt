@@ -3,15 +3,15 @@
 -- Assumes nothing.
 use mathlib.Core.Path.{_≡_}
 use mathlib.Core.Bool.{Bool, true, false, _&&_, _||_, not}
-use mathlib.Core.List.{List, [], _∷_}
-use Prim.Native.Nat.{ℕ, zero, suc, _+_, _*_, _%_, _/_, _≤_}
+use mathlib.Core.List.{List, [], _∷_, _++_}
+use Prim.Native.Nat.{ℕ, zero, suc, _+_, _*_, _%_, _/_, _<_, _≤_}
 use lib.Dec.{eqb, ltb, T}
 use Rattle.streams.specs.Meaning.{Entry, Plan, out}
-use Rattle.streams.specs.Calls.{core, planOk}
-use Rattle.streams.specs.Hands.{OneBook, BusyAtNine, OneIsEnough}
+use Rattle.streams.specs.Calls.{Call, Reply, core, planOk}
+use Rattle.streams.specs.Hands.{OneBook, BusyAtNine, OneIsEnough, Seen, Scene, here, Goes, Alone, countAt}
 use Rattle.streams.specs.Promise.{streams, Plans, Whole}
-use Rattle.book.specs.Interface.{gives, Calls, nothing, alone, withPage, reply, Filling, Ops}
-use Rattle.worker.specs.Worker.{workers}
+use Rattle.interface.specs.Ops.{gives, Due, nothing, alone, withPage, reply, Page, Ops}
+use Rattle.worker.specs.Worker.{Mind, workers}
 
 unfoldable pub get : ℕ → List ℕ → ℕ
 get k [] = 0
@@ -97,6 +97,12 @@ SmallBusyAtNine = (p : Plan) (logs : ℕ) → logs ≤ 256 → BusyAtNine (strea
 
 abbrev pub SmallOneIsEnough : Type 0
 SmallOneIsEnough = (p : Plan) (logs : ℕ) → 1 ≤ logs → logs ≤ 256 → OneIsEnough (workers smalls p logs)
+
+-- and how soon that is: within so many turns and answers of the store
+abbrev pub SmallWithin : Type 0
+SmallWithin =
+    (p : Plan) (logs : ℕ) → 1 ≤ logs → logs ≤ 256 → (all n : ℕ) → all ≤ 64 → n < 72057594037927936 → (es : List (Seen Call Reply)) (s : Scene Mind ℕ) → Goes (workers smalls p logs) all n es s → (i c : ℕ) (m : Mind) → i < all → s .hand i ≡ here c m →
+    (fs : List (Seen Call Reply)) × (t : Scene Mind ℕ) × (k : ℕ) × Alone (workers smalls p logs) i s fs t × Goes (workers smalls p logs) all k (fs ++ es) t × (k ≤ n + 24 * logs + 478) × (countAt i (t .waits) ≡ 0)
 
 -- Plans of which nothing comes out: the small book, which keeps no events, has nothing to answer. There are such plans.
 abbrev pub Silent : Plans
