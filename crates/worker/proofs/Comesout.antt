@@ -15,8 +15,7 @@ use Rattle.streams.specs.Promise.{streams}
 use Rattle.book.specs.Ledger.{logBox}
 use Rattle.book.specs.Interface.{nothing, reply, Ops, Safe}
 use Rattle.worker.specs.Worker.{Job, none, some, rest, Keep, Mind, none', asks, keeping, hearing, waits, start, startBy, accepts, judges, refuses, acts, worker, putsOf}
-use Rattle.interface.specs.Plain.{Plain}
-use Rattle.interface.specs.Live.{Live, AnswersAll}
+use Rattle.book.specs.Live.{Live, AnswersAll}
 use Rattle.worker.specs.Theorems.{WorkerEnds, WorkerOut, WorkerWithin}
 use Rattle.shelf.proofs.Places.{at-self}
 use Rattle.shelf.proofs.Waiting.{Waiting, waits-ok}

@@ -9,21 +9,22 @@ use lib.ListN.{length}
 use Rattle.streams.specs.Meaning.{Event, Entry, Plan}
 use Rattle.streams.specs.Calls.{entryOk, empties}
 use Rattle.streams.specs.Hands.{Box, at}
-use Rattle.interface.specs.Ops.{gives, Due, nothing, alone, withPage, Page, Ops, logBox, putAll, IsPage, Gathered, noPage, onePage, Tag}
+use Rattle.book.specs.Ledger.{logBox}
+use Rattle.book.specs.Book.{putAll}
+use Rattle.book.specs.Interface.{gives, Calls, nothing, alone, withPage, Filling, Ops, IsPage, Gathered, noPage, onePage, Tag, Safe, Now, Stays}
 use Rattle.worker.proofs.Laws.{Right, Laws}
-use Rattle.interface.specs.Plain.{Plain, Now, Kept}
 use Rattle.shelf.proofs.Places.{at-self, at-other}
 use Rattle.worker.proofs.Invariant.{log-some}
 use Rattle.shelf.proofs.Scripts.{Fits}
 
 -- the page at hand stays where another box is filled
-pub now-on : (f g : ℕ → Box) (d : Due) (x : List ℕ) → ((b : ℕ) → d ≡ withPage b → g b .bytes ≡ f b .bytes) → Now f d x → Now g d x
+pub now-on : (f g : ℕ → Box) (d : Calls) (x : List ℕ) → ((b : ℕ) → d ≡ withPage b → g b .bytes ≡ f b .bytes) → Now f d x → Now g d x
 now-on f g nothing x e y = y
 now-on f g alone x e y = y
 now-on f g (withPage b) x e y = e b refl ∙ y
 
-module _ (o : Ops) (p : Plan) (logs : ℕ) (P : Plain o p logs) where
-  -- a world: the logs, and the boxes as they are. What was so once is carried along by what Plain says of every filling.
+module _ (o : Ops) (p : Plan) (logs : ℕ) (P : Safe o p logs) where
+  -- a world: the logs, and the boxes as they are. What was so once is carried along by what Safe says of every filling.
   pub record W : Type 0 where
     pub ls : List (List Entry)
     pub f : ℕ → Box
@@ -42,8 +43,8 @@ module _ (o : Ops) (p : Plan) (logs : ℕ) (P : Plain o p logs) where
   Must' w b x = Fits x × IsPage b × (SpentAs w b x ⊎ Called w b x)
 
   -- an old ledger: known to the book; the page that it calls for is spent; what it would write is what must be written
-  pub record LedWas (w : W) (l : List ℕ) : Type 0 where
-    pub up : P .LedWas (w .ls) (w .f) l
+  pub record OldLedger (w : W) (l : List ℕ) : Type 0 where
+    pub up : P .OldLedger (w .ls) (w .f) l
     pub names : (b : ℕ) → o .due l ≡ withPage b → P .Spent (led w) b
     pub musts : (x : List ℕ) → Now (w .f) (o .due l) x → (a : Filling) → List·Memᴰ a (o .pages l x) → Must' w (a .box) (a .bytes)
 
@@ -106,8 +107,8 @@ module _ (o : Ops) (p : Plan) (logs : ℕ) (P : Plain o p logs) where
     now-back (withPage b) x sp y = let z = P .laws .spent-filled s b (sp b refl) in ap (λ u. u .bytes) (sym (stay b (z .0) (z .1))) ∙ y
 
     -- an old ledger stays one
-    led-on : (l : List ℕ) → LedWas v l → LedWas w l
-    led-on l h = record { up = kp .led l (h .up); names = λ b e. kp .spent b (h .names b e); musts = λ x now a m. must-up (a .box) (a .bytes) (h .musts x (now-back (o .due l) x (h .names) now) a m) }
+    led-on : (l : List ℕ) → OldLedger v l → OldLedger w l
+    led-on l h = record { up = kp .ledger l (h .up); names = λ b e. kp .spent b (h .names b e); musts = λ x now a m. must-up (a .box) (a .bytes) (h .musts x (now-back (o .due l) x (h .names) now) a m) }
 
     ups : Up' v w
     ups = record {
@@ -124,13 +125,13 @@ module _ (o : Ops) (p : Plan) (logs : ℕ) (P : Plain o p logs) where
     called-on : (d : ℕ) (y : Box) (ls : List (List Entry)) → (d ≡ 0 → ⊥) → ((b : ℕ) → P .Spent (led w) b → b ≡ d → ⊥) → (b : ℕ) (x : List ℕ) → Called w b x → Called (record { ls = ls; f = at d y (w .f) }) b x
     called-on d y ls no0 nosp b x c = let e0 : at d y (w .f) 0 ≡ w .f 0 = at-other d y (w .f) 0 (λ z. no0 (sym z)) in (
       c .0,
-      subst (λ z. Now (at d y (w .f)) (o .due (z .bytes)) (c .0)) (sym e0) (now-on (w .f) (at d y (w .f)) (o .due (led w)) (c .0) (λ b e. ap (λ z. z .bytes) (at-other d y (w .f) b (nosp b (P .due-spent s b e)))) (c .1)),
+      subst (λ z. Now (at d y (w .f)) (o .due (z .bytes)) (c .0)) (sym e0) (now-on (w .f) (at d y (w .f)) (o .due (led w)) (c .0) (λ b e. ap (λ z. z .bytes) (at-other d y (w .f) b (nosp b (P .laws .due-spent s b e)))) (c .1)),
       subst (λ z. List·Memᴰ (record { box = b; bytes = x }) (o .pages (z .bytes) (c .0))) (sym e0) (c .2),
     )
 
     plain-up : (d : ℕ) (y : Box) (ls : List (List Entry)) → (d ≡ 0 → ⊥) → Kept' w (record { ls = ls; f = at d y (w .f) }) → ((b : ℕ) → IsPage b → 1 ≤ w .f b .edition → b ≡ d → ⊥) → Up' w (record { ls = ls; f = at d y (w .f) })
     plain-up d y ls no0 kp np = ups w (record { ls = ls; f = at d y (w .f) }) s kp
-        (λ b pg one. at-other d y (w .f) b (np b pg one)) (λ b x c. inr (called-on d y ls no0 (λ b sp. let z = P .spent-filled s b sp in np b (z .0) (z .1)) b x c))
+        (λ b pg one. at-other d y (w .f) b (np b pg one)) (λ b x c. inr (called-on d y ls no0 (λ b sp. let z = P .laws .spent-filled s b sp in np b (z .0) (z .1)) b x c))
 
     -- the ledger
     led-fill-up : (y : Box) → Kept' w (record { ls = w .ls; f = at 0 y (w .f) }) → ((b : ℕ) (x : List ℕ) → Called w b x → SpentAs (record { ls = w .ls; f = at 0 y (w .f) }) b x ⊎ Called (record { ls = w .ls; f = at 0 y (w .f) }) b x) → Up' w (record { ls = w .ls; f = at 0 y (w .f) })
@@ -171,7 +172,7 @@ module _ (o : Ops) (p : Plan) (logs : ℕ) (P : Plain o p logs) where
         spent : (b : ℕ) (z : List ℕ) → Called w b z → SpentAs (record { ls = w .ls; f = at 0 y (w .f) }) b z
         spent b z c =
             let m : List·Memᴰ (record { box = b; bytes = z }) (o .pages (led w) x) = subst (λ u. List·Memᴰ (record { box = b; bytes = z }) (o .pages (led w) u)) (now-one (w .f) (o .due (led w)) (c .0) x (c .1) now) (c .2) in
-            let q = ps (record { box = b; bytes = z }) m in let pg = P .pages-page (led w) x (record { box = b; bytes = z }) m in let t : at 0 y (w .f) b ≡ w .f b = at-other 0 y (w .f) b (pg .0) in
+            let q = ps (record { box = b; bytes = z }) m in let pg = P .laws .pages-page (led w) x (record { box = b; bytes = z }) m in let t : at 0 y (w .f) b ≡ w .f b = at-other 0 y (w .f) b (pg .0) in
             (subst (λ u. P .Spent (u .bytes) b) (sym (at-self 0 y (w .f))) (k .2 (record { box = b; bytes = z }) m), subst (λ u. 1 ≤ u .edition) (sym t) (q .0), ap (λ u. u .bytes) t ∙ q .1)
 
     pub same' : (e : ℕ) → Ends n w (at 0 (record { edition = e + 1; bytes = led w }) (w .f)) (w .ls)
@@ -184,7 +185,7 @@ module _ (o : Ops) (p : Plan) (logs : ℕ) (P : Plain o p logs) where
         again b x c = let e0 : at 0 y (w .f) 0 .bytes ≡ led w = ap (λ z. z .bytes) (at-self 0 y (w .f)) in
             inr (
               c .0,
-              subst (λ z. Now (at 0 y (w .f)) (o .due z) (c .0)) (sym e0) (now-on (w .f) (at 0 y (w .f)) (o .due (led w)) (c .0) (λ t g. ap (λ z. z .bytes) (at-other 0 y (w .f) t (P .due-page (led w) t g .0))) (c .1)),
+              subst (λ z. Now (at 0 y (w .f)) (o .due z) (c .0)) (sym e0) (now-on (w .f) (at 0 y (w .f)) (o .due (led w)) (c .0) (λ t g. ap (λ z. z .bytes) (at-other 0 y (w .f) t (P .laws .due-page (led w) t g .0))) (c .1)),
               subst (λ z. List·Memᴰ (record { box = b; bytes = x }) (o .pages z (c .0))) (sym e0) (c .2),
             )
 

@@ -62,7 +62,7 @@ abbrev Keeps : (ls : List (List Entry)) (f : ℕ → Box) (ls' : List (List Entr
 Keeps ls f ls' f' = Stays (λ ls f x. Unit {0}) (λ ls f l x. Unit {0}) (λ ls f x. Unit {0}) Spent' ls f ls' f'
 
 keeps-other : (ls ls' : List (List Entry)) (f : ℕ → Box) (d : ℕ) (y : Box) → (d ≡ 0 → ⊥) → Keeps ls f ls' (at d y f)
-keeps-other ls ls' f d y no0 = record { led = λ x h. tt; log = λ l x h. tt; floor = λ x h. tt; spent = λ b h. subst (λ z. Spent' (z .bytes) b) (sym (at-other d y f 0 (λ z. no0 (sym z)))) h }
+keeps-other ls ls' f d y no0 = record { ledger = λ x h. tt; log = λ l x h. tt; floor = λ x h. tt; spent = λ b h. subst (λ z. Spent' (z .bytes) b) (sym (at-other d y f 0 (λ z. no0 (sym z)))) h }
 
 keeps-led : (ls : List (List Entry)) (f : ℕ → Box) (y : Box) → ((b : ℕ) → Spent' (f 0 .bytes) b → Spent' (y .bytes) b) → Keeps ls f ls (at 0 y f)
 keeps-led ls f y s = record { ledger = λ x h. tt; log = λ l x h. tt; floor = λ x h. tt; spent = λ b h. subst (λ z. Spent' (z .bytes) b) (sym (at-self 0 y f)) (s b h) }

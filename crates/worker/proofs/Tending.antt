@@ -11,10 +11,10 @@ use Rattle.std.proofs.shelf.Tests.{eqb-true, eqb-false, eq-eqb, ne-eqb, lt-ltb,
 use Rattle.streams.specs.Meaning.{Entry, Plan}
 use Rattle.streams.specs.Calls.{Call, Reply}
 use Rattle.streams.specs.Hands.{Box, wantsFill, Seen, at, Scene}
-use Rattle.interface.specs.Ops.{Gives, lacks, gives, Due, nothing, alone, withPage, Page, Ops, logBox}
+use Rattle.book.specs.Ledger.{logBox}
+use Rattle.book.specs.Interface.{Gives, lacks, gives, Calls, nothing, alone, withPage, Filling, Ops, Safe, Now}
 use Rattle.worker.specs.Worker.{ledger, page', written, kept, look, Keep, Mind, show, fill, Step, asks, hearing, looking, isNothing, readLedger, idle, write, nextLog, onLedgerBy, tookBy, onFilled, lessOne}
-use Rattle.interface.specs.Plain.{Plain, Now}
-use Rattle.interface.specs.Live.{Live}
+use Rattle.book.specs.Live.{Live}
 use Rattle.shelf.proofs.Places.{at-self, at-other, at-twice}
 use Rattle.shelf.proofs.History.{past}
 use Rattle.worker.proofs.Invariant.{fill-ok, log-some}
@@ -158,7 +158,7 @@ module _ (o : Ops) (p : Plan) (logs : ℕ) (P : Safe o p logs) (V : Live o p log
 
             now1 : Now f1 (o .due led) x
             now1 = now-on f f1 (o .due led) x (λ b d. ap (λ z. z .bytes) (at-other (t .box) (record { edition = 1; bytes = t .bytes }) f b
-                (λ z. let q = P .spent-filled (sd .1) b (P .due-spent (sd .1) b (ap (o .due) is ∙ d)) .1 in let u : f b .edition ≡ 0 = ap (λ w. f w .edition) z ∙ sym ed0 in omega (arith, q, u)))) now
+                (λ z. let q = P .laws .spent-filled (sd .1) b (P .laws .due-spent (sd .1) b (ap (o .due) is ∙ d)) .1 in let u : f b .edition ≡ 0 = ap (λ w. f w .edition) z ∙ sym ed0 in omega (arith, q, u)))) now
         go again (inr y) = again m1 f (suc (suc n)) e led x pl ed is now (λ a z. sub a (List·Memᴰ·tail z)) (miss o logs all i c lt es s (t .box) 0 (t .bytes) refl (eqb-false 0 (f (t .box) .edition) y) a) ms (omega (arith, bud)) (omega (arith, bud2))
 
     -- what is in hand, while logs are looked at: the ledger as it is, or another that is still to be filled
@@ -216,7 +216,7 @@ module _ (o : Ops) (p : Plan) (logs : ℕ) (P : Safe o p logs) (V : Live o p log
       look-took : (x : List ℕ) → o .take y l (f (logBox l) .bytes) ≡ gives x → Took1 f n l y x
       look-took x e = record {
         ls = ls;
-        sound = subst (P .Sound n ls) (at-twice 0 (record { edition = f 0 .edition + 1; bytes = x }) (record { edition = f 0 .edition + 1; bytes = y }) f) (P .take-ok (f 0 .edition) l (f1 (logBox l) .bytes) x sm sd d1 ll (P .log-now sd l) (take1 (gives x) e) .0);
+        sound = subst (P .Sound n ls) (at-twice 0 (record { edition = f 0 .edition + 1; bytes = x }) (record { edition = f 0 .edition + 1; bytes = y }) f) (P .laws .take-ok (f 0 .edition) l (f1 (logBox l) .bytes) x sm sd d1 ll (P .laws .log-now sd l) (take1 (gives x) e) .0);
         less = λ t. subst₂ (λ a b. a < b) (V .work-led x (record { edition = f 0 .edition + 1; bytes = y }) f) (ap (λ z. V .work z f1) e0 ∙ V .work-led y (record { edition = f 0 .edition + 1; bytes = y }) f)
             (V .work-take sm sd d1 l x ll (take1 (gives x) e) (ap (λ z. o .differs z x) e0 ∙ t));
         took = λ z. subst (V .Took x l) (el l) (V .took-take sm sd d1 l x ll (take1 (gives x) e) z);

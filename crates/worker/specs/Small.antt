@@ -10,7 +10,7 @@ use Rattle.streams.specs.Meaning.{Entry, Plan, out}
 use Rattle.streams.specs.Calls.{Call, Reply, core, planOk}
 use Rattle.streams.specs.Hands.{OneBook, BusyAtNine, OneIsEnough, Seen, Scene, here, Goes, Alone, countAt}
 use Rattle.streams.specs.Promise.{streams, Plans, Whole}
-use Rattle.interface.specs.Ops.{gives, Due, nothing, alone, withPage, reply, Page, Ops}
+use Rattle.book.specs.Interface.{gives, Calls, nothing, alone, withPage, reply, Filling, Ops}
 use Rattle.worker.specs.Worker.{Mind, workers}
 
 unfoldable pub get : ℕ → List ℕ → ℕ

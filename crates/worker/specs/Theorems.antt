@@ -9,9 +9,9 @@ use Rattle.streams.specs.Meaning.{Plan}
 use Rattle.streams.specs.Calls.{Call, Reply, core, planOk}
 use Rattle.streams.specs.Hands.{OneBook, BusyAtNine, OneIsEnough, Seen, Scene, here, Goes, Alone, countAt}
 use Rattle.streams.specs.Promise.{streams, Plans, AllPlans, ComesOut, Whole, CoreWhole}
-use Rattle.interface.specs.Ops.{Ops, nothing, logBox}
-use Rattle.interface.specs.Plain.{Plain}
-use Rattle.interface.specs.Live.{Live, AnswersAll}
+use Rattle.book.specs.Ledger.{logBox}
+use Rattle.book.specs.Interface.{Ops, nothing, Safe}
+use Rattle.book.specs.Live.{Live, AnswersAll}
 use Rattle.worker.specs.Worker.{Mind, worker, workers}
 
 -- customers see one book-keeper, and only a ninth call is handed back
@@ -26,7 +26,7 @@ WorkerEnds = (o : Ops) (p : Plan) (logs : ℕ) (P : Safe o p logs) → Live o p 
 -- turn of the worker or an answer of the store, and `work` is what the book says is left to do.
 abbrev pub WorkerWithin : Type 1
 WorkerWithin =
-    (o : Ops) (p : Plan) (logs : ℕ) (P : Plain o p logs) (V : Live o p logs P) → 1 ≤ logs → (all n : ℕ) → all ≤ 64 → n < 72057594037927936 → (es : List (Seen Call Reply)) (s : Scene Mind ℕ) → Goes (worker o logs) all n es s → (i c : ℕ) (m : Mind) → i < all → s .hand i ≡ here c m →
+    (o : Ops) (p : Plan) (logs : ℕ) (P : Safe o p logs) (V : Live o p logs P) → 1 ≤ logs → (all n : ℕ) → all ≤ 64 → n < 72057594037927936 → (es : List (Seen Call Reply)) (s : Scene Mind ℕ) → Goes (worker o logs) all n es s → (i c : ℕ) (m : Mind) → i < all → s .hand i ≡ here c m →
     (fs : List (Seen Call Reply)) × (t : Scene Mind ℕ) × (k : ℕ) × Alone (worker o logs) i s fs t × Goes (worker o logs) all k (fs ++ es) t × (k ≤ n + 12 * V .work (s .box 0 .bytes) (s .box) + 120 * V .heavy + 120 * V .long + 24 * logs + 442) × (countAt i (t .waits) ≡ 0) ×
     (o .due (t .box 0 .bytes) ≡ nothing) × ((l : ℕ) → l < logs → V .Took (t .box 0 .bytes) l (t .box (logBox l) .bytes))
 
