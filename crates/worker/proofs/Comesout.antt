@@ -22,7 +22,7 @@ use Rattle.shelf.proofs.Waiting.{Waiting, waits-ok}
 use Rattle.worker.proofs.Invariant.{none-some}
 use Rattle.worker.proofs.Onebook.{inv}
 use Rattle.worker.proofs.Jobs.{stateOf}
-use Rattle.worker.proofs.Plainlaws.{plain-laws}
+use Rattle.worker.proofs.Safelaws.{safe-laws}
 use Rattle.worker.proofs.Keeping.{HasM, worker-keeps-calls, worker-takes-calls, alone-waits, count-none}
 use Rattle.worker.proofs.Alone.{At, begun}
 use Rattle.worker.proofs.Ends.{Final, all-ends, Answered, ask-answer}
@@ -42,7 +42,7 @@ module _ (o : Ops) (p : Plan) (logs : ℕ) (P : Safe o p logs) (V : Live o p log
 
   -- room for all
   tot : (t : ℕ) × (t + 2 * V .long + 20 < P .bound) × Final o p logs P V one all i c al lt es s t
-  tot = let v = inv o p logs (plain-laws o p logs P) al far g in let q = v .3 .sound in
+  tot = let v = inv o p logs (safe-laws o p logs P) al far g in let q = v .3 .sound in
       let en = V .enough sm (subst (P .Sound n (v .0 .ls)) (q .is) (q .sound)) in
       let b = begun o logs all i c lt es s m g e in let le = b .1 in
       let t : ℕ = n + 2 + 12 * V .work (s .box 0 .bytes) (s .box) + 24 * logs + 40 + 10 * (12 * V .heavy + 12 * V .long + 40) in
@@ -108,7 +108,7 @@ module _ (o : Ops) (p : Plan) (logs : ℕ) (P : Safe o p logs) (V : Live o p log
   near = let a = tot .1 in let b = F .spent in omega (arith, a, b)
 
   logs-then : (ls : List (List Entry)) × P .Sound (F .n) ls (to .box) × (os : List (Open Call)) × (rs : List (Ready Reply)) × Book (streams p logs core) (F .at' .mid .fs ++ es) (stateOf p logs ls) os rs
-  logs-then = let v = inv o p logs (plain-laws o p logs P) al (let a = near in omega (arith, a)) (F .at' .mid .goes) in let q = v .3 .sound in let b = v .3 .loose in
+  logs-then = let v = inv o p logs (safe-laws o p logs P) al (let a = near in omega (arith, a)) (F .at' .mid .goes) in let q = v .3 .sound in let b = v .3 .loose in
       (v .0 .ls, subst (P .Sound (F .n) (v .0 .ls)) (q .is) (q .sound), b .opens, b .readies, b .book)
 
   abbrev Tells : (k from most : ℕ) → Mind → Type 0

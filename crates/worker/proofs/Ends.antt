@@ -18,7 +18,7 @@ use Rattle.book.specs.Live.{Live}
 use Rattle.worker.proofs.Jobs.{keep-less, entries-few}
 use Rattle.worker.proofs.Invariant.{log-some, CallOk}
 use Rattle.worker.proofs.Onebook.{inv}
-use Rattle.worker.proofs.Plainlaws.{plain-laws}
+use Rattle.worker.proofs.Safelaws.{safe-laws}
 use Rattle.worker.proofs.Alone.{At, see, mid-turn}
 use Rattle.worker.proofs.Tending.{sound-at, fit-of, pours, next, ahead, ledger-done}
 use Rattle.shelf.proofs.Places.{at-other}
@@ -50,7 +50,7 @@ module _ (o : Ops) (p : Plan) (logs : ℕ) (P : Safe o p logs) (V : Live o p log
     pub in-logs : (l : ℕ) (ps : List Job) → k .batch ≡ some l ps → l < logs
 
   pub keep-at : {r : Step} {f : ℕ → Box} {n : ℕ} → B r f n → n < P .bound → KeepFacts (r .mind .keep)
-  keep-at {r} {f} {n} a sm = let v = inv o p logs (plain-laws o p logs P) al sm (a .mid .goes) in let k = v .3 .hands i c (r .mind) (a .mid .minds) .keep in
+  keep-at {r} {f} {n} a sm = let v = inv o p logs (safe-laws o p logs P) al sm (a .mid .goes) in let k = v .3 .hands i c (r .mind) (a .mid .minds) .keep in
       record { few = k .few; ok = k .ok; in-logs = λ l ps e. k .batch l ps e .in-logs }
 
   snd : {r : Step} {f : ℕ → Box} {n : ℕ} → B r f n → n < P .bound → (ls : List (List Entry)) × P .Sound n ls f

@@ -1,5 +1,5 @@
 -- What the worker's proof uses of a book: facts about the past that stay true, in a world that only grows. A book that keeps
--- Safe keeps these laws (proofs/Plainlaws), so nobody else has to give them.
+-- Safe keeps these laws (proofs/Safelaws), so nobody else has to give them.
 use mathlib.Core.Path.{_≡_}
 use mathlib.Core.Bool.{true, _&&_}
 use mathlib.Core.List.{List, [], List·Memᴰ}

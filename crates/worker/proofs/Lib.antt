@@ -3,7 +3,7 @@ pub mod Jobs
 pub mod Invariant
 pub mod Onebook
 pub mod Busy
-pub mod Plainlaws
+pub mod Safelaws
 pub mod Alone
 pub mod Tending
 pub mod Ends

@@ -151,9 +151,9 @@ gives-are x y e = cc
 replies : (x y : List Event) → reply x ≡ reply y → x ≡ y
 replies x y e = cc
 
-pub small-plain : (p : Plan) (logs : ℕ) → logs ≤ 256 → Safe small p logs
+pub small-safe : (p : Plan) (logs : ℕ) → logs ≤ 256 → Safe small p logs
 unfolding firstOf allBytes
-small-plain p logs lg = record {
+small-safe p logs lg = record {
   bound = 72057594037927936 + 24 * logs + 1000;
   far = omega arith;
   Sound = λ n ls f. Fine f;
@@ -254,8 +254,8 @@ take-less [] [] t = absurd (both-ways (smallDiffers [] []) (differs-self []) t)
 take-less [] (a ∷ x) t = omega arith
 take-less (z ∷ y) x t = absurd (both-ways (smallDiffers (z ∷ y) (z ∷ y)) (differs-self (z ∷ y)) t)
 
-pub small-live : (p : Plan) (logs : ℕ) (lg : logs ≤ 256) → Live small p logs (small-plain p logs lg)
-unfolding small-plain
+pub small-live : (p : Plan) (logs : ℕ) (lg : logs ≤ 256) → Live small p logs (small-safe p logs lg)
+unfolding small-safe
 small-live p logs lg = record {
   work = λ l f. smallWork l;
   heavy = 0;
@@ -305,13 +305,13 @@ silent ls = ap (λ z. eventsOf (ended (mark 0 ls) z)) (no-cells (allInTime 0 ls)
 
 pub small-within : SmallWithin
 unfolding small-live
-small-within p logs one lg all n al sm es s g i c m lt e = let r = worker-within small p logs (small-plain p logs lg) (small-live p logs lg) one all n al sm es s g i c m lt e in
+small-within p logs one lg all n al sm es s g i c m lt e = let r = worker-within small p logs (small-safe p logs lg) (small-live p logs lg) one all n al sm es s g i c m lt e in
     (r .0, r .1, r .2, r .3, r .4, (let q = r .5 in let w = work-most (s .box 0 .bytes) in omega (arith, q, w)), r .6)
 
 -- the small book keeps the interface
 pub small-keeps : KeepsInterface Silent smalls
 small-keeps p quiet ok logs one lg = (
-  small-plain p logs lg,
+  small-safe p logs lg,
   small-live p logs lg,
   λ n ls f sm h d t from most got es ms ga e. sym (replies [] es e) ∙ (sym (first-none most) ∙ ap (firstOf most) (sym (drop-none from) ∙ ap (dropOf from) (sym (quiet ls)))),
 )

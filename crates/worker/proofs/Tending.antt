@@ -19,7 +19,7 @@ use Rattle.shelf.proofs.Places.{at-self, at-other, at-twice}
 use Rattle.shelf.proofs.History.{past}
 use Rattle.worker.proofs.Invariant.{fill-ok, log-some}
 use Rattle.worker.proofs.Onebook.{inv, viewOf}
-use Rattle.worker.proofs.Plainlaws.{plain-laws, now-on}
+use Rattle.worker.proofs.Safelaws.{safe-laws, now-on}
 use Rattle.worker.proofs.Alone.{At, mid-in, Wanted, see, pour, miss}
 use Rattle.shelf.proofs.Scripts.{Fits}
 
@@ -28,15 +28,15 @@ module _ (o : Ops) (p : Plan) (logs : ℕ) (P : Safe o p logs) (V : Live o p log
   A r f n = At o logs all i c lt es s r f n
 
   pub sound-at : {r : Step} {f : ℕ → Box} {n : ℕ} → A r f n → n < P .bound → (ls : List (List Entry)) × P .Sound n ls f
-  sound-at {r} {f} {n} a sm = let v = inv o p logs (plain-laws o p logs P) al sm (a .mid .goes) in let q = v .3 .sound in (v .0 .ls, subst (P .Sound n (v .0 .ls)) (q .is ∙ a .mid .boxes) (q .sound))
+  sound-at {r} {f} {n} a sm = let v = inv o p logs (safe-laws o p logs P) al sm (a .mid .goes) in let q = v .3 .sound in (v .0 .ls, subst (P .Sound n (v .0 .ls)) (q .is ∙ a .mid .boxes) (q .sound))
 
   -- what is asked to be filled at the edition that is there fits, and is right
   pub fit-of : {r : Step} {f : ℕ → Box} {n : ℕ} (b e : ℕ) (bs : List ℕ) → ((b ≡ 0) ⊎ ((l : ℕ) × (l < logs) × (b ≡ logBox l))) → r .ask ≡ fill b e bs → e ≡ f b .edition → suc n < P .bound → A r f n →
       Fits bs × ((ls : List (List Entry)) × P .Sound (suc n) ls (at b (record { edition = e + 1; bytes = bs }) f))
   fit-of {r} {f} {n} b e bs kd is ed sm a =
       let d = a .mid in
-      let v = inv o p logs (plain-laws o p logs P) al (omega (arith, sm)) (d .goes) in
-      let g = fill-ok o p logs (plain-laws o p logs P) (viewOf o p logs (plain-laws o p logs P) n (v .0) (d .fs ++ es) (v .1) (v .2) (past (d .goes)) (d .to)) (v .3) (omega (arith, sm)) i c (r .mind .asked) b e bs
+      let v = inv o p logs (safe-laws o p logs P) al (omega (arith, sm)) (d .goes) in
+      let g = fill-ok o p logs (safe-laws o p logs P) (viewOf o p logs (safe-laws o p logs P) n (v .0) (d .fs ++ es) (v .1) (v .2) (past (d .goes)) (d .to)) (v .3) (omega (arith, sm)) i c (r .mind .asked) b e bs
       (ed ∙ ap (λ z. z b .edition) (sym (d .boxes))) (v .3 .facts (wantsFill i c (r .mind .asked) b e bs) (mid-in o logs all i c lt es s d (subst (λ z. Wanted o logs all i c lt es s (r .mind .asked) z (d .new)) is (a .wants)))) in
       let sd : P .Sound (suc n) (g .0 .ls) (at b (record { edition = e + 1; bytes = bs }) f) = subst (P .Sound (suc n) (g .0 .ls)) (g .3 .sound .is ∙ ap (λ z. at b (record { edition = e + 1; bytes = bs }) z) (d .boxes)) (g .3 .sound .sound) in
       (subst Fits (ap (λ z. z .bytes) (at-self b (record { edition = e + 1; bytes = bs }) f)) (V .fits sm sd b kd), (g .0 .ls, sd))

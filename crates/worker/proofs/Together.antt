@@ -3,14 +3,14 @@ use mathlib.Core.Path.{refl}
 use native.Mathlib.Omega.{arith}
 use Rattle.streams.specs.Promise.{AllPlans, OneStage}
 use Rattle.worker.specs.Theorems.{WorkerKeeps, WorkerWhole, WorkerCoreWhole}
-use Rattle.worker.proofs.Plainlaws.{plain-laws}
+use Rattle.worker.proofs.Safelaws.{safe-laws}
 use Rattle.worker.proofs.Onebook.{worker-book}
 use Rattle.worker.proofs.Busy.{worker-busy}
 use Rattle.worker.proofs.Comesout.{worker-ends, worker-out}
 
 -- customers see one book-keeper, and only a ninth call is handed back
 pub worker-keeps : WorkerKeeps
-worker-keeps o p logs P = (λ all n one al sm es s g. worker-book o p logs (plain-laws o p logs P) al (let f = plain-laws o p logs P .far in omega arith) g, λ all n one al sm es s g i c k m x e t. worker-busy o p logs (plain-laws o p logs P) al sm g i c k m x e t)
+worker-keeps o p logs P = (λ all n one al sm es s g. worker-book o p logs (safe-laws o p logs P) al (let f = safe-laws o p logs P .far in omega arith) g, λ all n one al sm es s g i c k m x e t. worker-busy o p logs (safe-laws o p logs P) al sm g i c k m x e t)
 
 -- all of it
 pub worker-whole : WorkerWhole

@@ -1,7 +1,7 @@
 use Rattle.worker.proofs.busy_at_nine.Needs as need
 use Rattle.worker.specs.Small.{small}
 use Rattle.worker.proofs.Together.{worker-keeps}
-use Rattle.worker.proofs.Smalllaws.{small-plain}
+use Rattle.worker.proofs.Smalllaws.{small-safe}
 
 pub returns : need.returns
-returns c = λ p logs most. worker-keeps small p logs (small-plain p logs most) .1
+returns c = λ p logs most. worker-keeps small p logs (small-safe p logs most) .1

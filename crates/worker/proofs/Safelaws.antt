@@ -213,8 +213,8 @@ module _ (o : Ops) (p : Plan) (logs : ℕ) (P : Safe o p logs) where
   off Q s q = subst Q (sym (s .is)) q
 
   -- the laws
-  abbrev pub plain-laws : Laws o p logs
-  plain-laws = record {
+  abbrev pub safe-laws : Laws o p logs
+  safe-laws = record {
     bound = P .bound;
     far = P .far;
     World = W;
