@@ -1,14 +1,14 @@
 -- How many segments there are, and how deep: no more than rows.
-use mathlib.Core.Path.{_≡_, refl, sym, ap, _∙_, subst}
-use mathlib.Core.Logic.{_⊎_, inl, inr}
+use mathlib.Core.Path.{_≡_, refl, sym, subst}
+use mathlib.Core.Logic.{inl, inr}
 use mathlib.Core.List.{List, [], _∷_, _++_}
-use Prim.Native.Nat.{ℕ, zero, suc, _+_, _-_, _*_, _<_, _≤_}
+use Prim.Native.Nat.{ℕ, suc, _+_, _*_, _≤_}
 use native.Mathlib.Nat.{mul-suc, mul-le-mul-left}
 use native.Mathlib.Omega.{arith}
 use lib.ListN.{length, length-append}
-use Rattle.streams.specs.Meaning.{Sum, Stage}
-use Rattle.book.specs.Rows.{Key, Row, Bef, Upto, Each, Above, Sorted, onto}
-use Rattle.book.specs.Held.{Paged, Segs, none, plain, packed, Held, heads, queueOf, chainRows, under, contents, Till, Free, Under, FirstIs, SegsOk, Order, Alive, LeanSegs, Full, Lean, rowsOf, levelOf}
+use Rattle.streams.specs.Meaning.{Sum}
+use Rattle.book.specs.Rows.{Key, Row, Bef, Above, Sorted, onto}
+use Rattle.book.specs.Held.{Paged, Segs, none, plain, packed, Held, heads, chainRows, under, contents, Till, Free, Under, FirstIs, SegsOk, Order, Alive, LeanSegs, Full, Lean, rowsOf, levelOf}
 use Rattle.book.specs.Due.{Has}
 use Rattle.book.proofs.Rows.{bef-trans}
 use Rattle.book.proofs.Steps.{till-like, under-down, length-onto}
@@ -66,10 +66,6 @@ first-low P Q (packed low n inner c ss) k o f h = first-low (Till P ss) Q inner 
     part : (ks : List Key) → Keys Q (ks ++ lows ss) → Keys Q ks
     part [] g = tt
     part (j ∷ ks) g = (g .0, part ks (g .1))
-
-keys-right : (Q : Key → Type 0) (ks js : List Key) → Keys Q (ks ++ js) → Keys Q js
-keys-right Q [] js h = h
-keys-right Q (k ∷ ks) js h = keys-right Q ks js (h .1)
 
 abbrev Down : (Key → Type 0) → Type 0
 Down P = (a b : Key) → Bef a b → P b → P a

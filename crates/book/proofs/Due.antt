@@ -1,27 +1,27 @@
 -- The least row of all; what is due keeps all sound; nothing due, all came out.
 use mathlib.Core.Path.{_≡_, refl, sym, ap, _∙_, subst}
 use mathlib.Core.Logic.{_⊎_, inl, inr}
-use mathlib.Core.Bool.{Bool, true, false, cond, _&&_, _||_, not}
+use mathlib.Core.Bool.{Bool, true, false, cond}
 use mathlib.Core.List.{List, [], _∷_, _++_, append-nil, append-assoc}
 use Prim.Native.Nat.{ℕ, zero, suc, _+_, _-_, _*_, _/_, _<_, _≤_}
 use native.Mathlib.Omega.{arith}
-use lib.Dec.{eqb, ltb, leb, T}
+use lib.Dec.{eqb, ltb, leb}
 use lib.ListN.{length, take, drop, length-take, length-drop, length-append, take-append-drop}
-use Rattle.std.proofs.shelf.Tests.{eq-eqb, ne-eqb, leb-true, leb-false, ltb-true}
+use Rattle.std.proofs.shelf.Tests.{leb-true, leb-false, ltb-true}
 use Rattle.std.proofs.shelf.Ways.{tells}
 use Rattle.streams.proofs.Logs.{lessBy-is}
-use Rattle.streams.specs.Meaning.{Event, Entry, Stage, Plan, Cell, Sum, word, lessBy, cells, ended, eventsOf, mark, allInTime, throughAll, out}
-use Rattle.book.specs.Rows.{Key, Row, Bef, Upto, add, onto, Each, Above, Sorted}
-use Rattle.book.specs.Queue.{Link, nil, page, Seg, Page, Blank, RowPage, IndexPage, Pages, Write, written, Queue, After, place, places, lowerBy, packBy, siftBy, isOf, pick, left, spill, lower, pack, sift, unpack, open', pageOf, headAt, Spilled, spillAt}
-use Rattle.book.specs.Held.{Paged, Segs, none, plain, packed, Held, headOf, heads, queueOf, ChainIn, SegsIn, HeldIn, chainRows, under, contents, Under, Over, Within, ChainOk, FirstIs, SegsOk, Order, Fresh, Kept, Alive, Till, Free, levelOf, Full, LeanSegs, Lean, rowsOf}
+use Rattle.streams.specs.Meaning.{Event, Stage, Cell, Sum, word, lessBy, ended, eventsOf, throughAll, out}
+use Rattle.book.specs.Rows.{Key, Row, Bef, add, onto, Each, Above, Sorted}
+use Rattle.book.specs.Queue.{Link, nil, page, Seg, Page, Blank, RowPage, Pages, written, Queue, After, place, lowerBy, packBy, siftBy, isOf, pick, left, spill, lower, pack, sift, unpack, open', pageOf, headAt}
+use Rattle.book.specs.Held.{Paged, Segs, none, plain, packed, Held, headOf, heads, queueOf, ChainIn, HeldIn, chainRows, under, contents, Under, Over, Within, ChainOk, FirstIs, SegsOk, Order, Fresh, Kept, Alive, Till, Free, levelOf, Lean, rowsOf}
 use Rattle.book.specs.Flow.{rowOf, howOf, eventOf, Onward, Out, On, Gone, onwardBy, onward, rest, outs, Flows}
-use Rattle.book.specs.Due.{Sizes, Emitted, goOn, popped, then', emitBy, emit, Step, Spill, Lower, Pack, Sift, Emit, Unpack, Open, Due, Nothing, Do, fullest, atLevel, belowLevel, Crowd, calm, crowded, crowd, dueFirst, dueSegments, dueFront, dueSource, dueRows, dueCrowd, due, indexOf, shows, Done, quiet, packMany, do', take', Sound, Sized, empty, SoundAtFirst, SoundTaken, SoundLater, SoundDone, AllCameOut, Has, SizesOk, count, Runs, rests, goes, ComesOut, SameCells, OutOfLogs, LeastIsFirst, AnyPlace}
-use Rattle.book.proofs.Rows.{Tri, lo, eq, hi, tri, bef-trans, onto-none, add-lo, add-eq, add-hi, onto-both, onto-append, onto-onto}
+use Rattle.book.specs.Due.{Sizes, Emitted, goOn, then', emitBy, emit, Step, Spill, Lower, Pack, Sift, Emit, Unpack, Open, Due, Nothing, Do, fullest, atLevel, belowLevel, Crowd, calm, crowded, crowd, dueFirst, dueSegments, dueFront, dueSource, dueRows, dueCrowd, due, indexOf, shows, Done, quiet, packMany, do', take', Sound, Sized, SoundAtFirst, SoundTaken, SoundLater, SoundDone, AllCameOut, Has, SizesOk, count, Runs, rests, goes, ComesOut, SameCells, LeastIsFirst, AnyPlace}
+use Rattle.book.proofs.Rows.{Tri, lo, eq, hi, tri, onto-none, add-lo, add-eq, add-hi, onto-both, onto-append, onto-onto}
 use Rattle.book.proofs.Lists.{each-like, each-onto, each-append, sorted-onto, add-first, bef-upto-trans, sorted-mid, each-left, length-pick}
-use Rattle.book.proofs.Steps.{placeH, place-is, place-contents, place-order, lower-keeps, sift-keeps, open-keeps, unpack-keeps, pack-keeps, belowOf, placesH, places-is, places-segs, under-down, appendS, place-few, length-onto}
+use Rattle.book.proofs.Steps.{placeH, place-is, place-contents, place-order, lower-keeps, sift-keeps, open-keeps, unpack-keeps, pack-keeps, belowOf, places-is, places-segs, under-down, appendS, place-few, length-onto}
 use Rattle.book.proofs.Spill.{spill-keeps}
 use Rattle.book.proofs.Weights.{places-weight, picks, spills, spilled-more, weight}
-use Rattle.book.proofs.Flow.{Fits, takeRow, flows-pop, flows-take, flows-done, flows-first, flows-later}
+use Rattle.book.proofs.Flow.{Fits, flows-pop, flows-take, flows-done, flows-first, flows-later}
 
 -- ALL THAT IS NOT IN THE FRONT is after what is below the first low
 over-after : (ss : Segs) (a k : Key) → Under ss a → Over ss k → Bef a k
@@ -462,7 +462,7 @@ adv-lower z sts m es f h os r hh o ln al w = done (lower-keeps (howOf sts) f n h
         low = (b .0, subst (λ (z : List Row). Has z (b .0)) (sym (k .same)) (b .1), k .low (b .0) (b .2))
 
 -- PACK
-levels-apart : (v : ℕ) (ss : List Seg) → belowLevel v ss + atLevel v ss ≤ length ss
+pub levels-apart : (v : ℕ) (ss : List Seg) → belowLevel v ss + atLevel v ss ≤ length ss
 unfolding atLevel belowLevel
 levels-apart v [] = omega arith
 levels-apart v (s ∷ ss) = let ih : belowLevel v ss + atLevel v ss ≤ length ss = levels-apart v ss in grind (arith, tells)
@@ -740,9 +740,6 @@ pub same-out : (sts : List Stage) (m : ℕ) (es fs : List Event) → SameCells s
 unfolding throughAll
 same-out [] m es fs e = e
 same-out (st ∷ sts) m es fs e = ap (λ (cs : List Cell). throughAll sts m (eventsOf (ended m cs))) e
-
-pub out-of-logs : OutOfLogs
-out-of-logs z p ls es f q os e s d = all-came-out z (p .stages) (mark (p .late) ls) es f q os s d ∙ same-out (p .stages) (mark (p .late) ls) es (allInTime (p .late) ls) e
 
 pub least-is-first : LeastIsFirst
 least-is-first = pop-contents

@@ -1,25 +1,25 @@
 -- Each step that is due lowers the measure, so what is due comes to an end.
 use mathlib.Core.Path.{_≡_, refl, sym, ap, _∙_, subst}
 use mathlib.Core.Logic.{_⊎_, inl, inr}
-use mathlib.Core.Bool.{Bool, true, false, cond, _&&_}
+use mathlib.Core.Bool.{Bool, true, false, cond}
 use mathlib.Core.List.{List, [], _∷_, _++_, append-assoc}
-use Prim.Native.Nat.{ℕ, zero, suc, _+_, _-_, _*_, _<_, _≤_}
-use native.Mathlib.Nat.{suc-mul, mul-le-mul-right, mul-le-mul-left, le-mul-of-pos-right}
+use Prim.Native.Nat.{ℕ, zero, suc, _+_, _*_, _<_, _≤_}
+use native.Mathlib.Nat.{suc-mul, mul-le-mul-right, mul-le-mul-left}
 use native.Mathlib.Omega.{arith}
-use lib.Dec.{eqb, ltb, leb}
-use lib.ListN.{length, take, drop, length-append, length-drop}
-use Rattle.std.proofs.shelf.Tests.{leb-true, leb-false, ltb-false, le-leb, and-from}
-use Rattle.streams.specs.Meaning.{Event, Entry, Plan, Stage, Sum}
-use Rattle.book.specs.Queue.{Link, Page, Pages, Write, written, Queue, pageOf, Seg}
-use Rattle.book.specs.Held.{Held, queueOf, contents, HeldIn, Order, Alive, Lean, rowsOf, levelOf}
+use lib.Dec.{ltb, leb}
+use lib.ListN.{length, length-append, length-drop}
+use Rattle.std.proofs.shelf.Tests.{leb-true, ltb-false, le-leb, and-from}
+use Rattle.streams.specs.Meaning.{Event, Entry, Plan, Stage}
+use Rattle.book.specs.Queue.{Pages, written, Queue, pageOf}
+use Rattle.book.specs.Held.{Held, queueOf, contents, rowsOf, levelOf}
 use Rattle.book.specs.Flow.{howOf, Flows}
-use Rattle.book.specs.Due.{Sizes, SizesOk, Sized, Sound, Step, Due, Nothing, Do, Crowd, calm, crowded, crowd, dueCrowd, dueRows, dueSource, due, shows, Done, do', fullest, Has, take'}
-use Rattle.book.specs.Ledger.{LogBox, Taken, takenOf, setAt, Ledger, watermark, hasRoom, Took, takeEvents, newEvents, tookTo, took, Task, Publish, Tidy, Wanted, Rest, Want, wantedBy, wanted, outWritten, Turn, does}
+use Rattle.book.specs.Due.{Sizes, SizesOk, Sized, Sound, Step, Due, Nothing, Do, Crowd, calm, crowded, crowd, dueCrowd, dueRows, dueSource, due, shows, Done, do', fullest, take'}
+use Rattle.book.specs.Ledger.{LogBox, Taken, takenOf, setAt, watermark, hasRoom, Took, takeEvents, newEvents, tookTo, took, Task, Publish, Tidy, Wanted, Rest, Want, wantedBy, wanted, outWritten}
 use Rattle.book.specs.Book.{Book, SoundBook, PlanFine, takenEvents, outsOf, cameOut, turnOf, afterTurn}
 use Rattle.book.specs.Ends.{Turns, rests, goes, weights, ranks, mostSteps, EndsSoon, RoomToTake}
-use Rattle.book.proofs.Due.{load, Low, Rank, Falls, weigh, Advance, Adv, advance, ready}
-use Rattle.book.proofs.Deep.{lows, lows-few, level-few, weigh-few, load-rows}
-use Rattle.book.proofs.Book.{sound-turn, rest-due, publish-out, length-setAt}
+use Rattle.book.proofs.Due.{load, Rank, Falls, weigh, Adv, advance, ready}
+use Rattle.book.proofs.Deep.{lows-few, level-few, weigh-few, load-rows}
+use Rattle.book.proofs.Book.{sound-turn, rest-due, publish-out}
 use Rattle.book.proofs.Numbers.{took-more}
 
 -- A STEP OF THE QUEUE, with what falls

@@ -1,17 +1,17 @@
 -- Letting go of the least row, and taking an event, keep the flow; with nothing left to end, what came out is what comes through all stages.
 use mathlib.Core.Path.{_≡_, refl, sym, ap, _∙_, subst}
 use mathlib.Core.Logic.{_⊎_, inl, inr}
-use mathlib.Core.Bool.{Bool, true, false, cond, _&&_, _||_, not}
+use mathlib.Core.Bool.{Bool, true, false, cond}
 use mathlib.Core.List.{List, [], _∷_, _++_, append-nil, append-assoc}
-use Prim.Native.Nat.{ℕ, zero, suc, _+_, _-_, _*_, _/_, _%_, _<_, _≤_}
+use Prim.Native.Nat.{ℕ, zero, suc, _+_, _-_, _<_, _≤_}
 use native.Mathlib.Omega.{arith}
-use lib.Dec.{eqb, ltb, leb, T}
+use lib.Dec.{eqb}
 use lib.ListN.{length, drop, length-drop}
-use Rattle.std.proofs.shelf.Tests.{eq-eqb, ne-eqb, cases-eq, cases-bool, le-leb, lt-leb}
+use Rattle.std.proofs.shelf.Tests.{eq-eqb, ne-eqb, cases-eq, le-leb, lt-leb}
 use Rattle.std.proofs.shelf.Ways.{tells}
-use Rattle.streams.specs.Meaning.{Event, Stage, Cell, Sum, Count, Total, Least, Greatest, top, first, joined, into, word, endOf, lessBy, cells, ended, eventsOf, through, throughAll}
-use Rattle.book.specs.Rows.{Key, Row, Bef, Upto, put, join, add, onto, Each, Above, Sorted}
-use Rattle.book.specs.Flow.{rowOf, howOf, eventOf, Onward, Out, On, Gone, onwardBy, onward, rest, outs, stageCells, Gones, Flow, Flows}
+use Rattle.streams.specs.Meaning.{Event, Stage, Cell, Sum, Count, Total, Least, Greatest, first, joined, into, word, endOf, lessBy, cells, ended, eventsOf, through, throughAll}
+use Rattle.book.specs.Rows.{Key, Row, Bef, Upto, put, join, add, Each, Above, Sorted}
+use Rattle.book.specs.Flow.{rowOf, eventOf, Onward, On, Gone, onwardBy, onward, rest, outs, stageCells, Gones, Flow, Flows}
 use Rattle.book.proofs.Rows.{Tri, lo, eq, hi, tri, bef-trans, add-lo, add-eq, add-hi}
 use Rattle.book.proofs.Lists.{each-like, each-add, upto-self, upto-bef, upto-trans}
 use Rattle.streams.specs.Order as order

@@ -1,5 +1,5 @@
-mod Rows
-mod Lists
+pub mod Rows
+pub mod Lists
 mod Steps
 mod Spill
 mod Flow
@@ -7,15 +7,17 @@ mod Weights
 mod Due
 mod Stands
 mod Logs
-mod Book
-mod Words
-mod Numbers
+pub mod Book
+pub mod Words
+pub mod Numbers
 mod Deep
-mod Ends
+pub mod Ends
 mod Table
-mod Real
+pub mod Real
 mod Parts
 mod Safe
 mod Small
 mod Limits
 pub mod Laws
+pub mod Room
+pub mod Levels

@@ -1,9 +1,9 @@
 -- For 2 to the 56 steps every content fits: its numbers are words, and pages are short.
 use mathlib.Core.Path.{_≡_, refl, sym, ap, _∙_, subst}
-use mathlib.Core.Logic.{_⊎_, inl, inr}
+use mathlib.Core.Logic.{inl, inr}
 use mathlib.Core.Bool.{Bool, true, false, cond, _&&_}
 use mathlib.Core.List.{List, [], _∷_, _++_, List·Memᴰ, List·Memᴰ·head, List·Memᴰ·tail}
-use Prim.Native.Nat.{ℕ, zero, suc, _+_, _-_, _*_, _/_, _<_, _≤_, min}
+use Prim.Native.Nat.{ℕ, zero, suc, _+_, _*_, _/_, _<_, _≤_}
 use native.Mathlib.Nat.{mul-suc, mul-le-mul}
 use native.Mathlib.Omega.{arith}
 use lib.Dec.{eqb, ltb, leb, T, ltb→lt}
@@ -13,18 +13,18 @@ use Rattle.streams.specs.Meaning.{Event, Entry, Ev, Still, timeOf, Stage, Plan,
 use Rattle.streams.specs.Calls.{entryOk, small, empties, putIn}
 use Rattle.book.specs.Rows.{Row}
 use Rattle.book.specs.Queue.{Link, nil, page, Seg, Page, Blank, RowPage, IndexPage, Pages, Write, written, Queue, pageOf, isOf, pick, Spilled, splitBy, onePage, tooFull, mergeBy, spillBy, spillAt, packBy}
-use Rattle.book.specs.Held.{Held, queueOf, heads, rowsOf, under, chainRows}
+use Rattle.book.specs.Held.{Held}
 use Rattle.book.specs.Flow.{howOf, rowOf}
 use Rattle.book.specs.Due.{Sizes, SizesOk, Sound, Step, Spill, Pack, Lower, Sift, Emit, Unpack, Open, Done, packMany, do', take', atLevel, belowLevel, shows}
-use Rattle.book.specs.Ledger.{Served, LogBox, letGo, Taken, takenOf, Ledger, emptyLedger, watermark, hasRoom, Took, takeEvents, newEvents, took, isOld, Task, Publish, Tidy, Rest, Want, wanted, showsOf, OutWrite, Turn, does}
-use Rattle.book.specs.Words.{linkWord, writeAll, writeList, writeEvent, writeRow, writeSeg, writeTaken, writeQueue, writeLedger, writePage, writeOut, AreWords, Filled}
-use Rattle.book.specs.Book.{Book, emptyBook, Holds, TakenOf, LogRight, LogsRight, takenEvents, SoundBook, PlanFine, putAll, putBatch, takeInto, turnOf, afterTurn, HeldOnce, logOf}
+use Rattle.book.specs.Ledger.{LogBox, letGo, Taken, takenOf, Ledger, watermark, hasRoom, takeEvents, newEvents, isOld, Task, Publish, Tidy, Rest, Want, wanted, OutWrite}
+use Rattle.book.specs.Words.{writeAll, writeList, writeEvent, writeRow, writeSeg, writeTaken, writeQueue, writeLedger, writePage, writeOut, AreWords, Filled}
+use Rattle.book.specs.Book.{Book, emptyBook, TakenOf, LogsRight, takenEvents, SoundBook, PlanFine, putAll, putBatch, takeInto, turnOf, afterTurn, HeldOnce, logOf}
 use Rattle.book.specs.Numbers.{Among}
 use Rattle.book.specs.Interface.{Tag}
 use Rattle.book.specs.Limits.{Limits}
-use Rattle.book.specs.Small.{timeTop, KeyFit, RowsFit, EventFit, EventsFit, SegFit, SegsFit, PageFit, WritesFit, QueueFit, StagesFit, EntriesFit, LogsFit, total, Fits, SizesSmall, PlanSmall}
+use Rattle.book.specs.Small.{KeyFit, RowsFit, EventFit, EventsFit, SegsFit, PageFit, WritesFit, QueueFit, StagesFit, EntriesFit, LogsFit, total, Fits, SizesSmall, PlanSmall}
 use Rattle.book.proofs.Numbers.{step-numbers}
-use Rattle.book.proofs.Deep.{lows, lows-few, heads-few}
+use Rattle.book.proofs.Deep.{lows-few, heads-few}
 use Rattle.book.proofs.Book.{sound-turn, logs-long}
 use Rattle.book.proofs.Small.{page-up, queue-up, place-fits, row-fits, events-append, StepFits, step-fits}
 
@@ -225,17 +225,17 @@ page-words′ z c Blank s l h = tt
 page-words′ z c (RowPage below rs) s l h = (omega arith, (omega (arith, l, h .0), (omega (arith, h .2, s .rows), rows-words rs (h .1))))
 page-words′ z c (IndexPage ss) s l h = (omega arith, (omega (arith, h .1, s .segments), segs-words c ss l (h .0)))
 
-rows-long : (rs : List Row) → length (writeAll writeRow rs) ≡ 4 * length rs
+pub rows-long : (rs : List Row) → length (writeAll writeRow rs) ≡ 4 * length rs
 unfolding writeAll
 rows-long [] = refl
 rows-long (r ∷ rs) = omega (arith, rows-long rs)
 
-segs-long : (ss : List Seg) → length (writeAll writeSeg ss) ≡ 6 * length ss
+pub segs-long : (ss : List Seg) → length (writeAll writeSeg ss) ≡ 6 * length ss
 unfolding writeAll
 segs-long [] = refl
 segs-long (s ∷ ss) = omega (arith, segs-long ss)
 
-events-long : (es : List Event) → length (writeAll writeEvent es) ≡ 3 * length es
+pub events-long : (es : List Event) → length (writeAll writeEvent es) ≡ 3 * length es
 unfolding writeAll
 events-long [] = refl
 events-long (e ∷ es) = omega (arith, events-long es)
@@ -256,7 +256,7 @@ takens-words late f k (x ∷ ls) (y ∷ ts) m h t l r = (omega (arith, h, t, w .
     w : TakenOf late x y
     w = r .0 .taken
 
-taken-total : (late : ℕ) (ls : List (List Entry)) (ts : List Taken) → LogsFit ls → length (takenEvents late ls ts) ≤ total ls
+pub taken-total : (late : ℕ) (ls : List (List Entry)) (ts : List Taken) → LogsFit ls → length (takenEvents late ls ts) ≤ total ls
 taken-total late [] ts f = omega arith
 taken-total late (x ∷ ls) [] f = omega arith
 taken-total late (x ∷ ls) (t ∷ ts) f = omega (arith, length-append (take (t .taken) (inTime late 0 x)) (takenEvents late ls ts), length-take (t .taken) (inTime late 0 x), in-time-fits late 0 x (f .0) .1, taken-total late ls ts (f .1))

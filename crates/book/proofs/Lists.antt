@@ -1,17 +1,15 @@
 -- What holds of each of some rows; sorted rows.
 use mathlib.Core.Path.{_≡_, refl, sym, ap, _∙_, subst}
 use mathlib.Core.Logic.{_⊎_, inl, inr}
-use mathlib.Core.Bool.{Bool, true, false, cond, _&&_, _||_, not}
+use mathlib.Core.Bool.{Bool, true, false, cond}
 use mathlib.Core.List.{List, [], _∷_, _++_}
-use Prim.Native.Nat.{ℕ, zero, suc, _+_, _*_, _%_, _<_, _≤_}
+use Prim.Native.Nat.{ℕ, zero, suc, _+_}
 use native.Mathlib.Omega.{arith}
-use lib.Dec.{eqb, ltb, leb, T}
-use lib.ListN.{length, take, drop}
-use Rattle.std.proofs.shelf.Ways.{tells}
+use lib.ListN.{length}
 use Rattle.streams.specs.Meaning.{Sum}
-use Rattle.book.specs.Rows.{Key, Row, Bef, Upto, ltk, eqk, put, join, add, onto, Each, Above, Sorted}
+use Rattle.book.specs.Rows.{Key, Row, Bef, Upto, ltk, join, add, onto, Each, Above, Sorted}
 use Rattle.book.specs.Queue.{pick, left}
-use Rattle.book.proofs.Rows.{Tri, lo, eq, hi, tri, bef-trans, add-lo, add-eq, add-hi, onto-add, add-both}
+use Rattle.book.proofs.Rows.{Tri, lo, eq, hi, tri, bef-trans, add-lo, add-eq, add-hi, onto-add}
 
 pub each-like : (P Q : Key → Type 0) → ((k : Key) → P k → Q k) → (cs : List Row) → Each P cs → Each Q cs
 each-like P Q f [] h = tt
@@ -76,11 +74,6 @@ pub add-first : (how : ℕ → Sum) (r : Row) (cs : List Row) → Above (r .at) 
 unfolding add
 add-first how r [] h = refl
 add-first how r (c ∷ cs) h = add-lo how r c cs (h .0)
-
--- a row after all of some rows stands behind them
-pub add-behind : (how : ℕ → Sum) (r : Row) (xs cs : List Row) → Each (λ k. Bef k (r .at)) xs → add how r (xs ++ cs) ≡ xs ++ add how r cs
-add-behind how r [] cs h = refl
-add-behind how r (x ∷ xs) cs h = add-hi how r x (xs ++ cs) (h .0) ∙ ap (λ (ys : List Row). x ∷ ys) (add-behind how r xs cs (h .1))
 
 -- picked rows
 pub onto-pick : (how : ℕ → Sum) (n : ℕ) (f : Key → Bool) (rs acc : List Row) → onto how (pick n f rs) (onto how (left n f rs) acc) ≡ onto how rs acc

@@ -3,20 +3,19 @@ use mathlib.Core.Path.{_≡_, refl, sym, ap, _∙_, subst}
 use mathlib.Core.Logic.{_⊎_, inl, inr}
 use mathlib.Core.Bool.{Bool, true, false, cond}
 use mathlib.Core.List.{List, [], _∷_, _++_, append-assoc, append-nil}
-use Prim.Native.Nat.{ℕ, zero, suc, _+_, _-_, _*_, _/_, _<_, _≤_}
+use Prim.Native.Nat.{ℕ, zero, suc, _+_, _/_, _<_, _≤_}
 use native.Mathlib.Omega.{arith}
-use lib.Dec.{eqb, ltb, leb}
-use lib.ListN.{length, take, drop, take-append-drop}
-use Rattle.std.proofs.shelf.Tests.{ltb-true, eq-eqb, ne-eqb}
-use Rattle.std.proofs.shelf.Ways.{tells}
-use Rattle.streams.specs.Meaning.{Event, Entry, Plan, Stage, Sum, later, lessBy, word}
+use lib.Dec.{eqb, leb}
+use lib.ListN.{length, take, drop}
+use Rattle.std.proofs.shelf.Tests.{ne-eqb}
+use Rattle.streams.specs.Meaning.{Event, Entry, Plan, Stage, Sum, word}
 use Rattle.streams.specs.Calls.{putIn}
-use Rattle.book.specs.Rows.{Key, Row, add, onto}
-use Rattle.book.specs.Queue.{Link, nil, page, Seg, Page, Blank, RowPage, IndexPage, Pages, Write, written, Queue, After, isUp, place, places, lowerBy, packBy, siftBy, unpackBy, openBy, isOf, pick, left, Spilled, splitBy, onePage, tooFull, mergeBy, spillBy, spillAt, spill, pageOf}
+use Rattle.book.specs.Rows.{Row, add, onto}
+use Rattle.book.specs.Queue.{Link, nil, page, Seg, Page, Blank, RowPage, IndexPage, Pages, Write, written, Queue, isUp, place, places, lowerBy, packBy, siftBy, unpackBy, openBy, isOf, pick, Spilled, splitBy, onePage, tooFull, mergeBy, spillBy, spillAt, pageOf}
 use Rattle.book.specs.Flow.{howOf, Onward, Out, On, Gone, onward}
-use Rattle.book.specs.Due.{Sizes, Emitted, goOn, popped, then', emitBy, emit, Step, Spill, Lower, Pack, Sift, Emit, Unpack, Open, Done, packMany, do', take', atLevel, belowLevel}
-use Rattle.book.specs.Ledger.{Served, LogBox, Taken, takenOf, setAt, Ledger, watermark, hasRoom, Took, takeEvents, newEvents, tookTo, took, Task, Publish, Tidy, Wanted, Rest, Want, wanted, OutWrite, outWritten, Turn, turned, does}
-use Rattle.book.specs.Book.{Book, outsOf, cameOut, putBatch, takeInto, turnOf, afterTurn, putAll, HeldOnce, logOf}
+use Rattle.book.specs.Due.{Sizes, Emitted, goOn, popped, then', emitBy, emit, Step, Spill, Lower, Pack, Sift, Emit, Unpack, Open, packMany, do', take', atLevel, belowLevel}
+use Rattle.book.specs.Ledger.{Taken, takenOf, setAt, Ledger, watermark, hasRoom, Took, takeEvents, newEvents, tookTo, Task, Publish, Tidy, Rest, Want, wanted, OutWrite, outWritten, Turn, does}
+use Rattle.book.specs.Book.{Book, outsOf, cameOut, turnOf, afterTurn, putAll, HeldOnce, logOf}
 use Rattle.book.specs.Numbers.{Numbered, OutNumbered, Moves, StepsMove, Follows, itself, batch, takes, turn, Among, OneContent, Grows, AlwaysGrows, OldStays}
 use Rattle.book.proofs.Book.{publish-out, took-latest}
 

@@ -1,24 +1,23 @@
 -- The operations on bytes: what they call for, which pages they fill, who was served.
 use mathlib.Core.Path.{_≡_, refl, sym, ap, _∙_, subst}
 use mathlib.Core.Logic.{_⊎_, inl, inr}
-use mathlib.Core.Bool.{Bool, true, false, cond, _&&_, not}
+use mathlib.Core.Bool.{Bool, true, false, cond, _&&_}
 use mathlib.Core.List.{List, [], _∷_, _++_, List·Memᴰ, List·Memᴰ·head, List·Memᴰ·tail}
-use Prim.Native.Nat.{ℕ, zero, suc, _+_, _-_, _*_, _/_, _%_, _<_, _≤_}
+use Prim.Native.Nat.{ℕ, zero, suc, _+_, _*_, _/_, _%_, _<_, _≤_}
 use native.Mathlib.Omega.{arith}
-use lib.Dec.{eqb, ltb, leb, T}
-use lib.ListN.{length, replicate, length-append}
-use Rattle.std.proofs.shelf.Tests.{ltb-true, ltb-false, lt-ltb, eqb-true, eqb-false, eq-eqb, ne-eqb, and-parts, and-from}
-use Rattle.std.proofs.shelf.Ways.{tells}
-use Rattle.streams.specs.Meaning.{Event, Entry, Ev, Still, Plan, top, later, lessBy}
+use lib.Dec.{eqb, ltb}
+use lib.ListN.{length, replicate}
+use Rattle.std.proofs.shelf.Tests.{ltb-true, lt-ltb, eqb-true, eqb-false, and-parts}
+use Rattle.streams.specs.Meaning.{Event, Entry, Ev, Still, top}
 use Rattle.streams.specs.Hands.{allBytes}
-use Rattle.book.specs.Queue.{Link, nil, page, Seg, Page, Blank, Pages, Write, written, Queue, pageOf, headAt}
+use Rattle.book.specs.Queue.{Link, nil, page, Pages, Write, written, Queue, headAt}
 use Rattle.book.specs.Held.{Paged, Segs, none, plain, packed, Held, headOf, heads, queueOf, ChainIn, SegsIn, HeldIn}
-use Rattle.book.specs.Due.{Sizes, Step, Spill, Pack, Lower, Sift, Emit, Unpack, Open, shows, indexOf, Sound}
-use Rattle.book.specs.Ledger.{Served, nobody, LogBox, passed, came, entered, enteredAll, letGo, setAt, serve, batched, Taken, takenOf, Ledger, Task, Publish, Tidy, Wanted, Rest, Want, wanted, showsOf, OutWrite, outWritten, Turn, does, rowBox, outBox, logBox}
-use Rattle.book.specs.Words.{Maybe, nothing, just, bytesOf, AreWords, writePage, writeOut}
+use Rattle.book.specs.Due.{Step, Spill, Pack, Lower, Sift, Emit, Unpack, Open, shows, indexOf, Sound}
+use Rattle.book.specs.Ledger.{Served, nobody, LogBox, passed, came, entered, enteredAll, letGo, setAt, batched, Taken, takenOf, Ledger, Task, Publish, Tidy, Wanted, Rest, Want, showsOf, OutWrite, outWritten, rowBox, outBox, logBox}
+use Rattle.book.specs.Words.{nothing, just, bytesOf, AreWords, writePage, writeOut}
 use Rattle.book.specs.Numbers.{Numbered, OutNumbered, Among}
-use Rattle.book.specs.Interface.{Gives, lacks, gives, Calls, alone, withPage, Filling, IsPage}
-use Rattle.book.specs.Real.{hasBy, servedOf, allWords, floorOf, writes, raised, callsFor, callsOf, rowFillings, outFillings}
+use Rattle.book.specs.Interface.{lacks, gives, withPage, Filling, IsPage}
+use Rattle.book.specs.Real.{servedOf, allWords, floorOf, writes, raised, callsFor, callsOf, rowFillings, outFillings}
 
 pub just-same : {A : Type 0} (x y : A) → just x ≡ just y → x ≡ y
 just-same x y e = cc

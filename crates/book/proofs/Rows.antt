@@ -1,15 +1,14 @@
 -- Rows commute.
-use mathlib.Core.Path.{_≡_, refl, sym, ap, _∙_, subst}
+use mathlib.Core.Path.{_≡_, refl, sym, ap, _∙_}
 use mathlib.Core.Logic.{_⊎_, inl, inr}
-use mathlib.Core.Bool.{Bool, true, false, cond, _&&_, _||_}
+use mathlib.Core.Bool.{true, false}
 use mathlib.Core.List.{List, [], _∷_, _++_}
-use Prim.Native.Nat.{ℕ, zero, suc, _+_, _*_, _%_, _<_, _≤_}
+use Prim.Native.Nat.{ℕ, _%_, _<_}
 use native.Mathlib.Omega.{arith}
-use lib.Dec.{eqb, ltb, leb, T}
-use Rattle.std.proofs.shelf.Tests.{cases-order, cases-bool}
+use Rattle.std.proofs.shelf.Tests.{cases-order}
 use Rattle.std.proofs.shelf.Ways.{tells}
 use Rattle.streams.specs.Meaning.{Sum, Count, Total, Least, Greatest, top}
-use Rattle.book.specs.Rows.{Key, Row, Bef, ltk, eqk, put, join, add, onto, Above, Sorted}
+use Rattle.book.specs.Rows.{Key, Row, Bef, ltk, eqk, put, join, add, onto}
 
 pub data Tri (a b : Key) : Type 0 where
   lo : Bef a b → Tri a b

@@ -12,22 +12,22 @@ use Rattle.std.proofs.shelf.Tests.{eq-eqb, ne-eqb, eqb-true, le-leb, leb-true, 
 use Rattle.streams.specs.Meaning.{Event, Entry, Plan, out, lessBy}
 use Rattle.streams.specs.Calls.{entryOk, empties, putIn, dropOf, firstOf}
 use Rattle.streams.specs.Hands.{Box, at, allBytes}
-use Rattle.book.specs.Queue.{Link, nil, page, Page, Blank, Pages, Write, written, pageOf}
+use Rattle.book.specs.Queue.{Link, nil, page, Page, Write, written, pageOf}
 use Rattle.book.specs.Due.{Sizes, SizesOk}
-use Rattle.book.specs.Ledger.{Served, nobody, LogBox, emptyLog, workers, letGo, batched, Taken, takenOf, Ledger, emptyLedger, watermark, isOld, took, Task, Wanted, Rest, Want, wanted, showsOf, OutWrite, outWritten, Turn, does, rowBox, outBox, logBox}
-use Rattle.book.specs.Words.{Maybe, nothing, just, bytesOf, AreWords, writeLog, writeLedger, writePage, writeOut, logIn, ledgerIn, pageIn, outIn, Codec, Served64, Filled, AnyContent, ReadsBack}
-use Rattle.book.specs.Book.{Book, emptyBook, Holds, LogRight, LogsRight, outsOf, cameOut, SoundBook, PlanFine, setLog, putAll, putBatch, takeInto, turnOf, afterTurn, HeldOnce, logOf}
-use Rattle.book.specs.Numbers.{Numbered, OutNumbered, Moves, Among, Follows, itself, batch, takes, turn, Grows}
-use Rattle.book.specs.Interface.{Gives, lacks, gives, Calls, alone, withPage, Next, reply, Filling, Ops, IsPage, Now, Gathered, noPage, onePage, Tag, Stays, Laws}
-use Rattle.book.specs.Real.{logOr, ledgerOr, orBlank, orNone, hasBy, servedOf, floorOf, writes, addsBy, raiseBy, raised, callsOf, callsFor, dueBy, turnBy, turnFor, afterBy, rowFillings, outFillings, pagesBy, takeBy, answerBy, moreBy, real}
+use Rattle.book.specs.Ledger.{Served, LogBox, emptyLog, workers, letGo, batched, takenOf, Ledger, watermark, isOld, took, Task, Wanted, Rest, Want, wanted, showsOf, OutWrite, outWritten, Turn, does, rowBox, outBox, logBox}
+use Rattle.book.specs.Words.{Maybe, nothing, just, bytesOf, AreWords, writeLog, writeLedger, writePage, writeOut, pageIn, outIn, Filled}
+use Rattle.book.specs.Book.{Book, emptyBook, LogRight, outsOf, cameOut, SoundBook, PlanFine, setLog, putAll, putBatch, takeInto, turnOf, afterTurn, logOf, AllTaken}
+use Rattle.book.specs.Numbers.{Moves, Among, itself, batch, takes, turn, Grows}
+use Rattle.book.specs.Interface.{gives, Calls, withPage, reply, Filling, Ops, IsPage, Now, Gathered, noPage, onePage, Tag, Stays, Laws}
+use Rattle.book.specs.Real.{logOr, ledgerOr, orBlank, orNone, hasBy, servedOf, floorOf, addsBy, raiseBy, callsOf, callsFor, dueBy, turnBy, turnFor, afterBy, rowFillings, outFillings, pagesBy, takeBy, answerBy, real}
 use Rattle.book.specs.Limits.{Limits}
 use Rattle.book.specs.Right as R
 use Rattle.book.specs.Right.{outIn′, cameIn, Page′}
 use Rattle.streams.proofs.Logs.{lessBy-is}
 use Rattle.book.proofs.Words.{reads-back}
 use Rattle.book.proofs.Parts.{drop-past, drop-append, first-append, first-of-more, outs-long, page-part}
-use Rattle.book.proofs.Book.{sound-first, sound-batch, sound-take, sound-turn, first-of-out, outs-same, logs-at}
-use Rattle.book.proofs.Numbers.{steps-move, always-grows, old-stays, among-numbers, among-outs, one-number, one-out, written-numbered, out-numbered}
+use Rattle.book.proofs.Book.{sound-first, sound-batch, sound-take, sound-turn, first-of-out, all-out, outs-same, logs-at}
+use Rattle.book.proofs.Numbers.{steps-move, always-grows, old-stays, among-numbers, among-outs, one-number, one-out}
 use Rattle.book.proofs.Real.{just-same, mem-among, among-mem, among-append, row-is-page, out-is-page, rowFilling, outFilling, row-filling, out-filling, filled-row, filled-out, find-row, find-out, bytes-long, bytes-bytes, given, calls-page, calls-none, shown-below, served-set, served-other, batch-served, nobody-served, raised-under}
 
 -- a box filled, and the others
@@ -247,7 +247,7 @@ module _ (z : Sizes) (zo : SizesOk z) (p : Plan) (fine : PlanFine p) (logs bound
   answer-page from most x got b e = go (ledgerOr logs x) e
     where
       go : (m : Maybe Ledger) → answerBy z from most m got ≡ Rattle.book.specs.Interface.page b → IsPage b
-      go nothing q = absurd (let i : _≡_ {A = ℕ} 0 1 = cc in omega arith)
+      go nothing q = let e : outBox 0 ≡ b = cc in subst IsPage e (out-is-page 0)
       go (just y) q = subst IsPage (sym (answer-tells from most y got b q .1)) (out-is-page ((from + length got) / z .outs))
 
   moves-for : (shown : List ℕ) (y : Ledger) → Moves y (turnFor z p shown y)
@@ -709,24 +709,15 @@ module _ (z : Sizes) (zo : SizesOk z) (p : Plan) (fine : PlanFine p) (logs bound
       go false t true u q = (cc, inl (Rattle.std.proofs.shelf.Tests.ltb-false (length got) most t))
       go false t false u q = (cc, inl (Rattle.std.proofs.shelf.Tests.ltb-false (length got) most t))
 
-  answer-ok : {n : ℕ} {ls : List (List Entry)} {f : ℕ → Box} (from most : ℕ) (x : List ℕ) (got es : List Event) → Right n ls f → Old f x → Gathered O (λ b y. Spent (f 0 .bytes) b × (f b .bytes ≡ y)) from most x got → O .answer from most x got ≡ reply es →
-      (j : ℕ) × (j ≤ most) × (es ≡ firstOf j (dropOf from (out p ls)))
-  answer-ok {n} {ls} {f} from most x got es r a g e = (length (firstOf most (dropOf from o)), parts .0, given′ ∙ parts .1 ∙ ap (firstOf (length (firstOf most (dropOf from o)))) (sym (drop-append from o more) ∙ ap (dropOf from) (sym whole)))
+  -- an answer is what had come out by its ledger, from there on
+  answer-is : (n : ℕ) (ls : List (List Entry)) (f : ℕ → Box) (r : Right n ls f) (from most : ℕ) (x : List ℕ) (got es : List Event) (a : Old f x) → Gathered O (λ b y. Spent (f 0 .bytes) b × (f b .bytes ≡ y)) from most x got → O .answer from most x got ≡ reply es → es ≡ firstOf most (dropOf from (cameIn f (a .old)))
+  answer-is n ls f r from most x got es a g e = t .0 ∙ by (t .1)
     where
       o : List Event
       o = cameIn f (a .old)
 
       w : Ledger
       w = a .old
-
-      fst : (m : List Event) × (out p ls ≡ cameOut (r .book) ++ m)
-      fst = first-of-out z p fine ls (r .book) (r .sound)
-
-      more : List Event
-      more = a .more .0 ++ fst .0
-
-      whole : out p ls ≡ o ++ more
-      whole = fst .1 ∙ ap (λ (xs : List Event). xs ++ fst .0) (sym (came-is n ls f r) ∙ ap (cameIn f) (sym (just-same (a .now) (r .book .ledger) (sym (a .is) ∙ r .ledger))) ∙ a .more .1) ∙ append-assoc o (a .more .0) (fst .0)
 
       t : (es ≡ firstOf most (got ++ dropOf (lessBy (w .pages * z .outs) (from + length got)) (w .tail))) × ((most ≤ length got) ⊎ (w .pages * z .outs ≤ from + length got))
       t = reply-tells from most w got es (sym (ap (λ (m : Maybe Ledger). answerBy z from most m got) (a .reads)) ∙ e)
@@ -740,15 +731,35 @@ module _ (z : Sizes) (zo : SizesOk z) (p : Plan) (fine : PlanFine p) (logs bound
       tail : w .pages * z .outs ≤ from + length got → dropOf (from + length got) o ≡ dropOf (lessBy (w .pages * z .outs) (from + length got)) (w .tail)
       tail h = ap (λ (m : ℕ). dropOf m o) (omega (arith, h, long, lessBy-is (w .pages * z .outs) (from + length got))) ∙ drop-past (outsOf (outIn′ f) (w .pages)) (w .tail) (lessBy (w .pages * z .outs) (from + length got))
 
-      given′ : es ≡ firstOf most (dropOf from o)
-      given′ = t .0 ∙ by (t .1)
-        where
-          by : (most ≤ length got) ⊎ (w .pages * z .outs ≤ from + length got) → firstOf most (got ++ dropOf (lessBy (w .pages * z .outs) (from + length got)) (w .tail)) ≡ firstOf most (dropOf from o)
-          by (inl h) = first-append most got (dropOf (lessBy (w .pages * z .outs) (from + length got)) (w .tail)) h ∙ sym (first-append most got (dropOf (from + length got) o) h) ∙ ap (firstOf most) (sym had)
-          by (inr h) = ap (λ (xs : List Event). firstOf most (got ++ xs)) (sym (tail h)) ∙ ap (firstOf most) (sym had)
+      by : (most ≤ length got) ⊎ (w .pages * z .outs ≤ from + length got) → firstOf most (got ++ dropOf (lessBy (w .pages * z .outs) (from + length got)) (w .tail)) ≡ firstOf most (dropOf from o)
+      by (inl h) = first-append most got (dropOf (lessBy (w .pages * z .outs) (from + length got)) (w .tail)) h ∙ sym (first-append most got (dropOf (from + length got) o) h) ∙ ap (firstOf most) (sym had)
+      by (inr h) = ap (λ (xs : List Event). firstOf most (got ++ xs)) (sym (tail h)) ∙ ap (firstOf most) (sym had)
+
+  answer-ok : {n : ℕ} {ls : List (List Entry)} {f : ℕ → Box} (from most : ℕ) (x : List ℕ) (got es : List Event) → Right n ls f → Old f x → Gathered O (λ b y. Spent (f 0 .bytes) b × (f b .bytes ≡ y)) from most x got → O .answer from most x got ≡ reply es →
+      (j : ℕ) × (j ≤ most) × (es ≡ firstOf j (dropOf from (out p ls)))
+  answer-ok {n} {ls} {f} from most x got es r a g e = (length (firstOf most (dropOf from o)), parts .0, answer-is n ls f r from most x got es a g e ∙ parts .1 ∙ ap (firstOf (length (firstOf most (dropOf from o)))) (sym (drop-append from o more) ∙ ap (dropOf from) (sym whole)))
+    where
+      o : List Event
+      o = cameIn f (a .old)
+
+      fst : (m : List Event) × (out p ls ≡ cameOut (r .book) ++ m)
+      fst = first-of-out z p fine ls (r .book) (r .sound)
+
+      more : List Event
+      more = a .more .0 ++ fst .0
+
+      whole : out p ls ≡ o ++ more
+      whole = fst .1 ∙ ap (λ (xs : List Event). xs ++ fst .0) (sym (came-is n ls f r) ∙ ap (cameIn f) (sym (just-same (a .now) (r .book .ledger) (sym (a .is) ∙ r .ledger))) ∙ a .more .1) ∙ append-assoc o (a .more .0) (fst .0)
 
       parts : (length (firstOf most (dropOf from o)) ≤ most) × (firstOf most (dropOf from o) ≡ firstOf (length (firstOf most (dropOf from o))) (dropOf from o ++ dropOf (from - length o) more))
       parts = first-of-more most (dropOf from o) (dropOf (from - length o) more)
+
+  -- with nothing due and all taken, it is all there is
+  pub answers-all : (n : ℕ) (ls : List (List Entry)) (f : ℕ → Box) (r : Right n ls f) → O .due (f 0 .bytes) ≡ Rattle.book.specs.Interface.nothing → AllTaken (p .late) ls (r .book .ledger .logs) → (from most : ℕ) (got es : List Event) → Gathered O (λ b y. Spent (f 0 .bytes) b × (f b .bytes ≡ y)) from most (f 0 .bytes) got → O .answer from most (f 0 .bytes) got ≡ reply es →
+      es ≡ firstOf most (dropOf from (out p ls))
+  unfolding ledger-now
+  answers-all n ls f r d t from most got es g e =
+      answer-is n ls f r from most (f 0 .bytes) got es (ledger-now r) g e ∙ ap (λ (os : List Event). firstOf most (dropOf from os)) (came-is n ls f r ∙ all-out z p ls (r .book) (r .sound) t (calls-none (wanted z (p .late) (r .book .ledger)) (r .book .ledger) (sym (due-is (f 0 .bytes) (r .book .ledger) (r .ledger)) ∙ d)))
 
   pub laws : Laws (real z p logs) p logs bound Right OldLedger OldLog Floor Spent
   laws = record {

@@ -1,22 +1,21 @@
 -- Numbers and pages stay within their limits: each step of the queue.
-use mathlib.Core.Path.{_≡_, refl, sym, ap, _∙_, subst}
-use mathlib.Core.Logic.{_⊎_, inl, inr}
-use mathlib.Core.Bool.{Bool, true, false, cond, _&&_, not}
+use mathlib.Core.Path.{_≡_, refl, ap, _∙_}
+use mathlib.Core.Bool.{Bool, true, false, cond}
 use mathlib.Core.List.{List, [], _∷_, _++_}
-use Prim.Native.Nat.{ℕ, zero, suc, _+_, _-_, _*_, _/_, _%_, _<_, _≤_, min}
+use Prim.Native.Nat.{ℕ, zero, suc, _+_, _*_, _/_, _%_, _<_, _≤_}
 use native.Mathlib.Nat.{suc-mul, div-mul-le-self, mod-lt, div-le-self, mod-le}
 use native.Mathlib.Omega.{arith}
 use lib.Dec.{eqb, ltb, leb}
 use lib.ListN.{length, take, drop, length-append, length-take, length-drop}
-use Rattle.std.proofs.shelf.Tests.{leb-true, leb-false, ltb-true, ltb-false, eqb-false}
-use Rattle.streams.specs.Meaning.{Event, Stage, Expr, Num, Time, Key, Value, Plus, Minus, Times, Quotient, Rest, Less, Same, Not, Sum, Count, Total, Least, Greatest, top, bit, lessBy, word, first, endOf}
+use Rattle.std.proofs.shelf.Tests.{leb-true, leb-false, ltb-false}
+use Rattle.streams.specs.Meaning.{Event, Stage, Expr, Num, Time, Key, Value, Plus, Minus, Times, Quotient, Rest, Less, Same, Not, Sum, Count, Total, Least, Greatest, top, lessBy, word, first, endOf}
 use Rattle.streams.proofs.Logs.{lessBy-is}
 use Rattle.book.specs.Rows.{Row, put, join, ltk, eqk, add, onto}
-use Rattle.book.specs.Queue.{Link, nil, page, Seg, Page, Blank, RowPage, IndexPage, Write, Queue, isUp, place, places, lowerBy, packBy, siftBy, unpackBy, openBy, isOf, pick, left, Spilled, splitBy, onePage, tooFull, mergeBy, spillBy, spillAt, spill}
+use Rattle.book.specs.Queue.{Link, nil, page, Seg, Page, Blank, RowPage, IndexPage, Write, Queue, isUp, place, places, lowerBy, packBy, siftBy, unpackBy, openBy, isOf, pick, left, Spilled, splitBy, onePage, tooFull, mergeBy, spillBy, spillAt}
 use Rattle.book.specs.Flow.{rowOf, howOf, eventOf, Onward, Out, On, Gone, onwardBy, onward}
-use Rattle.book.specs.Due.{Sizes, Emitted, goOn, popped, then', emitBy, emit, Step, Spill, Pack, Lower, Sift, Emit, Unpack, Open, packMany, do', take', atLevel, belowLevel}
-use Rattle.book.specs.Words.{linkWord, Filled}
-use Rattle.book.specs.Small.{timeTop, KeyFit, RowsFit, EventFit, EventsFit, SegFit, SegsFit, PageFit, WritesFit, QueueFit, StagesFit}
+use Rattle.book.specs.Due.{Sizes, Emitted, goOn, popped, then', emitBy, emit, Step, Spill, Pack, Lower, Sift, Emit, Unpack, Open, packMany, do', atLevel, belowLevel}
+use Rattle.book.specs.Words.{linkWord}
+use Rattle.book.specs.Small.{KeyFit, RowsFit, EventFit, EventsFit, SegFit, SegsFit, PageFit, WritesFit, QueueFit, StagesFit}
 use Rattle.book.proofs.Steps.{length-onto}
 
 -- ROWS

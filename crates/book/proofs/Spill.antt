@@ -1,19 +1,19 @@
 -- Spilling keeps what the queue holds, and its order.
 use mathlib.Core.Path.{_≡_, refl, sym, ap, _∙_, subst}
 use mathlib.Core.Logic.{_⊎_, inl, inr}
-use mathlib.Core.Bool.{Bool, true, false, cond, _&&_, _||_, not}
+use mathlib.Core.Bool.{Bool, true, false, cond, not}
 use mathlib.Core.List.{List, [], _∷_, _++_, append-nil}
-use Prim.Native.Nat.{ℕ, zero, suc, _+_, _*_, _/_, _<_, _≤_, min}
+use Prim.Native.Nat.{ℕ, zero, suc, _+_, _/_, _<_, _≤_}
 use native.Mathlib.Omega.{arith}
-use lib.Dec.{eqb, ltb, leb, T}
-use lib.ListN.{length, take, drop, take-append-drop, length-take, length-drop, length-append}
-use Rattle.std.proofs.shelf.Tests.{eq-eqb, ne-eqb, leb-false, and-parts, not-true, both-ways}
+use lib.Dec.{leb}
+use lib.ListN.{length, take, drop, take-append-drop, length-take, length-append}
+use Rattle.std.proofs.shelf.Tests.{ne-eqb, leb-false, and-parts, not-true, both-ways}
 use Rattle.streams.specs.Meaning.{Sum}
-use Rattle.book.specs.Rows.{Key, Row, Bef, Upto, ltk, add, onto, Each, Above, Sorted}
-use Rattle.book.specs.Queue.{Link, nil, page, Seg, Page, Blank, RowPage, IndexPage, Pages, Write, written, Queue, After, below1, isOf, pick, left, Spilled, splitBy, onePage, tooFull, mergeBy, spillBy, spillAt, spill, pageOf, headAt}
-use Rattle.book.specs.Held.{Paged, Segs, none, plain, packed, Held, headOf, heads, queueOf, ChainIn, SegsIn, HeldIn, chainRows, under, contents, Under, Over, Within, ChainOk, FirstIs, SegsOk, Order, Fresh, Kept, Alive, Till, Free, levelOf, Full, LeanSegs, Lean, rowsOf}
-use Rattle.book.proofs.Rows.{Tri, lo, eq, hi, tri, add-lo, add-eq, add-hi, bef-trans, onto-add, onto-both, onto-append, onto-added, onto-onto, onto-none}
-use Rattle.book.proofs.Lists.{each-like, each-add, each-onto, each-append, each-left, each-right, sorted-add, sorted-onto, sorted-left, sorted-right, sorted-mid, onto-pick, each-pick, each-kept, picked, sorted-pick, sorted-kept, upto-self, upto-bef, upto-trans, upto-bef-trans, bef-upto-trans, ltk-tells, each-onto-inv, length-pick}
+use Rattle.book.specs.Rows.{Key, Row, Bef, Upto, ltk, add, onto, Each, Sorted}
+use Rattle.book.specs.Queue.{Link, nil, page, Seg, Page, RowPage, Pages, Write, written, below1, isOf, pick, left, Spilled, splitBy, onePage, tooFull, mergeBy, spillBy, spillAt, spill, pageOf, headAt}
+use Rattle.book.specs.Held.{Paged, Segs, none, plain, packed, Held, headOf, heads, queueOf, ChainIn, SegsIn, HeldIn, chainRows, under, Under, Over, Within, ChainOk, SegsOk, Order, Fresh, Kept, Alive, Free, levelOf, Full, LeanSegs}
+use Rattle.book.proofs.Rows.{Tri, lo, eq, hi, tri, add-lo, add-eq, add-hi, onto-both, onto-append, onto-onto, onto-none}
+use Rattle.book.proofs.Lists.{each-like, each-onto, each-left, each-right, sorted-onto, sorted-left, sorted-right, sorted-mid, onto-pick, each-pick, each-kept, picked, sorted-pick, sorted-kept, upto-self, upto-bef, upto-bef-trans, ltk-tells, each-onto-inv, length-pick}
 use Rattle.book.proofs.Steps.{written-below, written-here, chain-more, segs-more, chain-like, ok-like, length-onto}
 
 -- what comes of segments and rows moved into them

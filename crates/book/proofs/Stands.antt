@@ -1,16 +1,10 @@
 -- What came out stands (as in the meaning's own proofs, for sizes alone); so what came out of a sound queue is a first part of what comes out of the logs.
 use mathlib.Core.Path.{_≡_, refl, sym, ap, _∙_}
-use mathlib.Core.Logic.{_⊎_, inl, inr}
-use mathlib.Core.Bool.{Bool, true, false, cond, _&&_}
-use mathlib.Core.List.{List, [], _∷_, _++_, append-assoc, append-nil}
-use Prim.Native.Nat.{ℕ, zero, suc, _+_, _-_, _*_, _/_, _<_, _≤_}
+use mathlib.Core.List.{List, [], _∷_, _++_, append-assoc}
+use Prim.Native.Nat.{ℕ, _≤_}
 use native.Mathlib.Omega.{arith}
-use lib.Dec.{eqb, ltb, leb}
-use Rattle.std.proofs.shelf.Tests.{leb-true, leb-false}
-use Rattle.std.proofs.shelf.Ways.{tells}
-use Rattle.streams.specs.Meaning.{Event, Entry, Stage, Plan, Cell, Sum, lessBy, mark, allInTime, into, cells, ended, eventsOf, through, throughAll, out, endOf, word}
-use Rattle.book.specs.Queue.{Pages, Queue}
-use Rattle.book.specs.Due.{Sizes, Sized, Since, Sound, SizesOk, SameCells, FirstPart, Runs}
+use Rattle.streams.specs.Meaning.{Event, Stage, mark, allInTime, through, throughAll, out}
+use Rattle.book.specs.Due.{Sizes, Sized, Since, FirstPart, Runs}
 use Rattle.streams.proofs.Marks.{since-ended}
 use Rattle.streams.proofs.Opens.{stage-stands}
 use Rattle.book.proofs.Due.{comes-out, same-out}

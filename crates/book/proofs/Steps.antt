@@ -1,19 +1,19 @@
 -- Each step keeps what the queue holds, and its order.
 use mathlib.Core.Path.{_≡_, refl, sym, ap, _∙_, subst}
 use mathlib.Core.Logic.{_⊎_, inl, inr}
-use mathlib.Core.Bool.{Bool, true, false, cond, _&&_, _||_, not}
-use mathlib.Core.List.{List, [], _∷_, _++_, append-nil, append-assoc}
-use Prim.Native.Nat.{ℕ, zero, suc, _+_, _*_, _/_, _<_, _≤_}
+use mathlib.Core.Bool.{Bool, true, false, cond, not}
+use mathlib.Core.List.{List, [], _∷_, _++_, append-assoc}
+use Prim.Native.Nat.{ℕ, zero, suc, _+_, _<_, _≤_}
 use native.Mathlib.Omega.{arith}
-use lib.Dec.{eqb, ltb, leb, T}
-use lib.ListN.{length, take, drop, take-append-drop, length-append, length-take, length-drop}
-use Rattle.std.proofs.shelf.Tests.{eq-eqb, ne-eqb, leb-false, cases-bool}
+use lib.Dec.{eqb}
+use lib.ListN.{length, take, drop, take-append-drop, length-append, length-take}
+use Rattle.std.proofs.shelf.Tests.{eq-eqb, ne-eqb}
 use Rattle.streams.specs.Meaning.{Sum}
-use Rattle.book.specs.Rows.{Key, Row, Bef, Upto, ltk, add, onto, Each, Above, Sorted}
-use Rattle.book.specs.Queue.{Link, nil, page, Seg, Page, Blank, RowPage, IndexPage, Pages, Write, written, Queue, After, isUp, place, places, lowerBy, lower, packBy, pack, siftBy, sift, unpackBy, unpack, openBy, open', below1, isOf, pick, left, Spilled, splitBy, onePage, tooFull, mergeBy, spillBy, spillAt, spill}
+use Rattle.book.specs.Rows.{Key, Row, Bef, Upto, ltk, add, onto, Each, Sorted}
+use Rattle.book.specs.Queue.{nil, page, Seg, Page, IndexPage, Pages, Write, written, isUp, place, places, lowerBy, lower, packBy, pack, siftBy, sift, unpackBy, unpack, openBy, open'}
 use Rattle.book.specs.Held.{Paged, Segs, none, plain, packed, Held, headOf, heads, queueOf, ChainIn, SegsIn, HeldIn, chainRows, under, contents, Under, Over, Within, ChainOk, FirstIs, SegsOk, Order, Fresh, Kept, Alive, Till, Free, levelOf, Full, LeanSegs, Lean, rowsOf}
 use Rattle.book.proofs.Rows.{Tri, lo, eq, hi, tri, add-lo, add-eq, add-hi, bef-trans, onto-add, onto-both, onto-append, onto-added, onto-onto, onto-none}
-use Rattle.book.proofs.Lists.{each-like, each-add, each-onto, each-append, each-left, each-right, sorted-add, sorted-onto, sorted-left, sorted-right, sorted-mid, onto-pick, each-pick, each-kept, picked, sorted-pick, sorted-kept, upto-self, upto-bef, upto-trans, upto-bef-trans, bef-upto-trans, ltk-tells, each-onto-inv}
+use Rattle.book.proofs.Lists.{each-like, each-add, each-onto, each-right, sorted-add, sorted-onto, sorted-left, sorted-right, sorted-mid, upto-self, upto-bef, upto-trans, ltk-tells, each-onto-inv}
 
 -- HOW MANY
 pub length-add : (how : ℕ → Sum) (r : Row) (cs : List Row) → length (add how r cs) ≤ suc (length cs)

@@ -1,21 +1,20 @@
 -- What a step makes longer and shorter.
-use mathlib.Core.Path.{_≡_, refl, sym, ap, _∙_, subst}
+use mathlib.Core.Path.{_≡_, refl}
 use mathlib.Core.Logic.{_⊎_, inl, inr}
-use mathlib.Core.Bool.{Bool, true, false, cond, _&&_, _||_, not}
-use mathlib.Core.List.{List, [], _∷_, _++_, append-nil, append-assoc}
-use Prim.Native.Nat.{ℕ, zero, suc, _+_, _-_, _*_, _/_, _<_, _≤_}
+use mathlib.Core.Bool.{Bool, true, false, cond}
+use mathlib.Core.List.{List, [], _∷_}
+use Prim.Native.Nat.{ℕ, zero, suc, _+_, _*_, _/_, _≤_}
 use native.Mathlib.Omega.{arith}
-use lib.Dec.{eqb, ltb, leb, T}
-use lib.ListN.{length, take, drop, length-append, length-take, length-drop, take-append-drop}
+use lib.Dec.{ltb, leb}
+use lib.ListN.{length, take, drop, length-append}
 use Rattle.std.proofs.shelf.Tests.{ltb-true, ltb-false}
 use Rattle.streams.specs.Meaning.{Sum}
-use Rattle.book.specs.Rows.{Key, Row, Bef, Upto, ltk, add, onto, Each, Above, Sorted}
-use Rattle.book.specs.Queue.{Link, nil, page, Seg, Page, Blank, RowPage, IndexPage, Queue, isUp, below1, isOf, pick, left, Spilled, splitBy, onePage, tooFull, mergeBy, spillBy, spillAt}
-use Rattle.book.specs.Held.{Paged, Segs, none, plain, packed, Held, headOf, heads, queueOf, Under, Over}
+use Rattle.book.specs.Rows.{Key, Row, Bef, Upto, ltk, onto, Each}
+use Rattle.book.specs.Queue.{Link, nil, page, Seg, Page, Blank, RowPage, IndexPage, isUp, below1, isOf, pick, splitBy, onePage, tooFull, mergeBy, spillBy, spillAt}
+use Rattle.book.specs.Held.{Segs, none, plain, packed, Held, heads, Over}
 use Rattle.book.specs.Due.{count, fullest, Best}
-use Rattle.book.proofs.Rows.{Tri, lo, eq, hi, tri, add-lo, add-eq, add-hi}
 use Rattle.book.proofs.Lists.{ltk-tells}
-use Rattle.book.proofs.Steps.{putTo, placeH, placesH, length-add, length-onto}
+use Rattle.book.proofs.Steps.{putTo, placeH, placesH, length-add}
 
 -- rows placed
 abbrev pub weight : Held → ℕ

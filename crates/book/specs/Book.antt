@@ -1,17 +1,16 @@
 -- When all boxes together are right for the logs.
 -- Assumes nothing.
 use mathlib.Core.Path.{_≡_}
-use mathlib.Core.Bool.{Bool, true, false, cond}
+use mathlib.Core.Bool.{false, cond}
 use mathlib.Core.List.{List, [], _∷_, _++_}
-use Prim.Native.Nat.{ℕ, zero, suc, _+_, _<_, _≤_}
-use lib.Dec.{eqb, leb}
+use Prim.Native.Nat.{ℕ, zero, suc, _<_, _≤_}
+use lib.Dec.{eqb}
 use lib.ListN.{length, take, drop}
 use Rattle.streams.specs.Meaning.{Event, Entry, Plan, inTime, latest, out}
 use Rattle.streams.specs.Calls.{empties, putIn}
-use Rattle.book.specs.Queue.{Link, Page, Blank, Pages, Write, written, pageOf}
-use Rattle.book.specs.Held.{Fresh}
+use Rattle.book.specs.Queue.{Blank, Pages, written, pageOf}
 use Rattle.book.specs.Due.{Sizes, SizesOk, Sized, Sound}
-use Rattle.book.specs.Ledger.{Served, LogBox, emptyLog, batched, Taken, takenOf, Ledger, emptyLedger, watermark, took, isOld, Task, Wanted, Rest, Want, wanted, showsOf, OutWrite, outWritten, Turn, does}
+use Rattle.book.specs.Ledger.{Served, LogBox, emptyLog, batched, Taken, takenOf, Ledger, emptyLedger, watermark, took, isOld, Task, Rest, Want, wanted, showsOf, outWritten, Turn, does}
 
 -- what all boxes hold
 pub record Book : Type 0 where

@@ -1,16 +1,16 @@
 -- What is due, and what comes of it; when all is sound.
 -- Assumes nothing.
 use mathlib.Core.Path.{_≡_}
-use mathlib.Core.Bool.{Bool, true, false, cond}
+use mathlib.Core.Bool.{Bool, cond}
 use mathlib.Core.Logic.{_⊎_}
 use mathlib.Core.List.{List, [], _∷_, _++_}
-use Prim.Native.Nat.{ℕ, zero, suc, _+_, _*_, _/_, _<_, _≤_}
+use Prim.Native.Nat.{ℕ, zero, suc, _+_, _/_, _<_, _≤_}
 use lib.Dec.{eqb, ltb, leb}
 use lib.ListN.{length}
 use Rattle.streams.specs.Meaning.{Event, Entry, Stage, Plan, Sum, word, lessBy, cells, mark, allInTime, throughAll, out}
-use Rattle.book.specs.Rows.{Key, Row, Bef, Above, Each, onto, add}
-use Rattle.book.specs.Queue.{Link, nil, page, Seg, Page, Blank, RowPage, IndexPage, Pages, Write, written, Queue, After, place, isOf, headAt, pageOf, spill, lower, pack, sift, unpack, open'}
-use Rattle.book.specs.Held.{Paged, Segs, plain, packed, heads, Held, queueOf, HeldIn, contents, Order, Fresh, Alive, Lean, rowsOf}
+use Rattle.book.specs.Rows.{Key, Row, onto, add}
+use Rattle.book.specs.Queue.{Link, nil, page, Seg, Page, Pages, Write, written, Queue, After, place, isOf, headAt, pageOf, spill, lower, pack, sift, unpack, open'}
+use Rattle.book.specs.Held.{Held, queueOf, HeldIn, contents, Order, Fresh, Alive, Lean, rowsOf}
 use Rattle.book.specs.Flow.{rowOf, howOf, Onward, Out, On, Gone, onward, Flows}
 
 -- how many there should be: rows in the front, in the buffer and in a page; segments of one level; rows let go in a step; events in an out page and in a log box
@@ -220,9 +220,6 @@ abbrev pub SameCells : List Stage → (es fs : List Event) → Type 0
 SameCells [] es fs = es ≡ fs
 SameCells (st ∷ sts) es fs = cells st es ≡ cells st fs
 
-abbrev pub OutOfLogs : Type 0
-OutOfLogs = (z : Sizes) (p : Plan) (ls : List (List Entry)) (es : List Event) (f : Pages) (q : Queue) (os : List Event) → SameCells (p .stages) es (allInTime (p .late) ls) → Sound (p .stages) (mark (p .late) ls) es f q os → due z (mark (p .late) ls) q ≡ Nothing → os ≡ out p ls
-
 -- THE LEAST: when the source is none, the front's first row is the least of all that is held, whatever the pages hold
 abbrev pub LeastIsFirst : Type 0
 LeastIsFirst = (how : ℕ → Sum) (h : Held) (r : Row) (rs : List Row) → h .front ≡ r ∷ rs → h .source ≡ [] → Order h →
@@ -231,23 +228,6 @@ LeastIsFirst = (how : ℕ → Sum) (h : Held) (r : Row) (rs : List Row) → h .f
 -- ANY ORDER: rows in any two places may change places
 abbrev pub AnyPlace : Type 0
 AnyPlace = (how : ℕ → Sum) (rs ss acc : List Row) → (onto how rs (onto how ss acc) ≡ onto how ss (onto how rs acc)) × (onto how (rs ++ ss) acc ≡ onto how rs (onto how ss acc)) × (onto how (onto how rs ss) acc ≡ onto how rs (onto how ss acc))
-
--- ROOM: what a ledger and a page must have room for
-abbrev pub frontRoom : Sizes → ℕ
-frontRoom z = z .front + z .buffer + z .rows
-
-abbrev pub bufferRoom : Sizes → ℕ
-bufferRoom z = z .front + 2 * z .buffer + z .rows + z .emits
-
-pub record Room (z : Sizes) (q : Queue) : Type 0 where
-  pub front : length (q .front) ≤ frontRoom z
-  pub buffer : length (q .buffer) ≤ bufferRoom z
-  pub segments : length (q .segments) ≤ suc (z .segments)
-
-abbrev pub PageRoom : Sizes → Page → Type 0
-PageRoom z Blank = Unit {0}
-PageRoom z (RowPage below rs) = length rs ≤ z .rows
-PageRoom z (IndexPage ss) = length ss ≤ suc (z .segments)
 
 -- A FIRST PART. However far a sound queue is, with some events taken, the others at its mark or after, and the mark of the logs no earlier: what came out is a first part of what comes out of the logs
 abbrev pub Since : ℕ → List Event → Type 0

@@ -1,9 +1,9 @@
 -- What is due comes to an end, in so many steps; then there is room to take.
 -- Assumes nothing.
 use mathlib.Core.Path.{_≡_}
-use mathlib.Core.Bool.{Bool, true}
-use mathlib.Core.List.{List, [], _∷_}
-use Prim.Native.Nat.{ℕ, zero, suc, _+_, _*_, _<_, _≤_}
+use mathlib.Core.Bool.{true}
+use mathlib.Core.List.{List}
+use Prim.Native.Nat.{ℕ, suc, _+_, _*_, _<_, _≤_}
 use lib.ListN.{length}
 use Rattle.streams.specs.Meaning.{Entry, Plan}
 use Rattle.book.specs.Due.{Sizes, SizesOk}

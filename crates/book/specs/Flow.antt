@@ -1,13 +1,13 @@
 -- Rows of all stages in one queue, and what comes out of it.
 -- Assumes nothing.
 use mathlib.Core.Path.{_≡_}
-use mathlib.Core.Bool.{Bool, true, false, cond}
+use mathlib.Core.Bool.{cond}
 use mathlib.Core.List.{List, [], _∷_, _++_}
 use Prim.Native.Nat.{ℕ, zero, suc, _<_, _≤_}
-use lib.Dec.{eqb, ltb, leb}
+use lib.Dec.{eqb}
 use lib.ListN.{length, drop}
 use Rattle.streams.specs.Meaning.{Event, Stage, Cell, Sum, Count, first, word, endOf, lessBy, cells, eventsOf}
-use Rattle.book.specs.Rows.{Key, Row, Bef, Upto, Each, Above, add}
+use Rattle.book.specs.Rows.{Key, Row, Upto, Each, Above, add}
 
 -- an event's row in a stage
 abbrev pub rowOf : Stage → (number : ℕ) → Event → Row

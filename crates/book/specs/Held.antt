@@ -1,14 +1,12 @@
 -- What a queue holds: the same queue with the rows that lie in pages beside the pages' numbers. Steps of the queue are steps of this.
 -- Assumes nothing.
 use mathlib.Core.Path.{_≡_}
-use mathlib.Core.Bool.{Bool, true, false, cond, _&&_, not}
 use mathlib.Core.List.{List, [], _∷_, _++_}
-use Prim.Native.Nat.{ℕ, zero, suc, _+_, _/_, _<_, _≤_}
-use lib.Dec.{eqb, ltb, leb}
-use lib.ListN.{length, take, drop}
+use Prim.Native.Nat.{ℕ, suc, _+_, _<_, _≤_}
+use lib.ListN.{length}
 use Rattle.streams.specs.Meaning.{Sum}
-use Rattle.book.specs.Rows.{Key, Row, Bef, Upto, Each, Sorted, ltk, add, onto}
-use Rattle.book.specs.Queue.{Link, nil, page, Seg, Page, RowPage, IndexPage, Pages, Queue, Write, After, written}
+use Rattle.book.specs.Rows.{Key, Row, Bef, Upto, Each, Sorted, onto}
+use Rattle.book.specs.Queue.{Link, nil, page, Seg, RowPage, IndexPage, Pages, Queue, Write, After, written}
 
 pub record Paged : Type 0 where
   pub number : ℕ

@@ -1,9 +1,9 @@
 -- What a worker needs of the book, and nothing else: operations on bytes, and laws about boxes as they are now. There is no history in it, no machine, and nothing of workers but their tags.
 -- Assumes nothing.
 use mathlib.Core.Path.{_≡_}
-use mathlib.Core.Bool.{Bool, true, false, _&&_}
-use mathlib.Core.List.{List, [], _∷_, List·Memᴰ}
-use Prim.Native.Nat.{ℕ, zero, suc, _+_, _<_, _≤_}
+use mathlib.Core.Bool.{Bool, true, _&&_}
+use mathlib.Core.List.{List, [], List·Memᴰ}
+use Prim.Native.Nat.{ℕ, suc, _+_, _<_, _≤_}
 use lib.Dec.{leb, T}
 use lib.ListN.{length}
 use Rattle.streams.specs.Meaning.{Event, Entry, Plan, out}

@@ -14,4 +14,6 @@ pub mod Real
 pub mod Limits
 pub mod Small
 pub mod Right
+pub mod Room
+pub mod Levels
 pub mod Live

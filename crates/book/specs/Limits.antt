@@ -1,16 +1,16 @@
 -- The limits within which the book's bytes are right: what must hold of its numbers and lengths, step by step, so that every content can be written and read.
 -- Assumes nothing.
 use mathlib.Core.Path.{_≡_}
-use mathlib.Core.Bool.{Bool, true, false}
-use mathlib.Core.List.{List, [], _∷_, List·Memᴰ}
-use Prim.Native.Nat.{ℕ, zero, suc, _+_, _*_, _<_, _≤_}
+use mathlib.Core.Bool.{false}
+use mathlib.Core.List.{List, List·Memᴰ}
+use Prim.Native.Nat.{ℕ, suc, _+_, _*_, _<_, _≤_}
 use lib.Dec.{T}
 use lib.ListN.{length}
-use Rattle.streams.specs.Meaning.{Event, Entry, Plan}
+use Rattle.streams.specs.Meaning.{Entry, Plan}
 use Rattle.streams.specs.Calls.{entryOk, empties}
 use Rattle.book.specs.Queue.{Write}
 use Rattle.book.specs.Due.{Sizes}
-use Rattle.book.specs.Ledger.{Served, LogBox, letGo, takenOf, Task, Rest, Want, wanted, isOld, OutWrite}
+use Rattle.book.specs.Ledger.{LogBox, letGo, takenOf, Task, Rest, Want, wanted, isOld, OutWrite}
 use Rattle.book.specs.Words.{AreWords, writeLedger, writePage, writeOut, Filled}
 use Rattle.book.specs.Book.{Book, emptyBook, SoundBook, putAll, putBatch, takeInto, turnOf, afterTurn, HeldOnce, logOf}
 use Rattle.book.specs.Numbers.{Among}

@@ -3,13 +3,13 @@
 use mathlib.Core.Path.{_≡_}
 use mathlib.Core.Logic.{_⊎_}
 use mathlib.Core.List.{List, [], _∷_, _++_}
-use Prim.Native.Nat.{ℕ, zero, suc, _+_, _<_, _≤_}
+use Prim.Native.Nat.{ℕ, suc, _+_, _<_, _≤_}
 use lib.ListN.{length}
 use Rattle.streams.specs.Meaning.{Event, Entry, Plan}
-use Rattle.book.specs.Queue.{Page, Write, Queue, Pages}
-use Rattle.book.specs.Due.{Sizes, SizesOk}
-use Rattle.book.specs.Ledger.{Served, LogBox, Taken, takenOf, Ledger, Task, Rest, Want, wanted, OutWrite, Turn, does}
-use Rattle.book.specs.Book.{Book, SoundBook, PlanFine, cameOut, putBatch, takeInto, turnOf, afterTurn, putAll, HeldOnce, logOf}
+use Rattle.book.specs.Queue.{Page, Write, Pages}
+use Rattle.book.specs.Due.{Sizes}
+use Rattle.book.specs.Ledger.{Served, LogBox, takenOf, Ledger, Task, Rest, Want, wanted, OutWrite, Turn, does}
+use Rattle.book.specs.Book.{Book, cameOut, putBatch, takeInto, turnOf, afterTurn, putAll, HeldOnce, logOf}
 
 -- writes are numbered one after the other
 abbrev pub Numbered : ℕ → List Write → Type 0

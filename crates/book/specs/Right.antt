@@ -2,26 +2,27 @@
 -- Assumes nothing.
 use mathlib.Core.Path.{_≡_}
 use mathlib.Core.Logic.{_⊎_}
-use mathlib.Core.List.{List, [], _∷_, _++_}
-use Prim.Native.Nat.{ℕ, zero, suc, _+_, _<_, _≤_}
-use lib.Dec.{T}
+use mathlib.Core.Bool.{_&&_}
+use mathlib.Core.List.{List, _++_}
+use Prim.Native.Nat.{ℕ, _<_, _≤_}
+use lib.Dec.{T, leb}
 use lib.ListN.{length}
-use Rattle.streams.specs.Meaning.{Event, Entry, Plan}
-use Rattle.streams.specs.Calls.{planOk}
-use Rattle.streams.specs.Hands.{Box}
+use Rattle.streams.specs.Meaning.{Event, Entry, Plan, out}
+use Rattle.streams.specs.Calls.{dropOf, firstOf, planOk}
+use Rattle.streams.specs.Hands.{Box, allBytes}
 use Rattle.book.specs.Due.{Sizes}
 use Rattle.book.specs.Ledger.{LogBox, takenOf, Ledger, logBox, rowBox, outBox}
 use Rattle.book.specs.Words.{just, pageIn, outIn}
-use Rattle.book.specs.Book.{Book, SoundBook, outsOf, HeldOnce, logOf}
-use Rattle.book.specs.Small.{Fits}
-use Rattle.book.specs.Interface.{Laws}
+use Rattle.book.specs.Book.{Book, SoundBook, outsOf, HeldOnce, logOf, AllTaken}
+use Rattle.book.specs.Levels.{Within}
+use Rattle.book.specs.Interface.{nothing, reply, Gathered, Laws}
 use Rattle.book.specs.Real.{sizes, logOr, ledgerOr, orNone, floorOf, real}
 
 -- THE BOXES ARE RIGHT: they hold a book that is right for the logs and within its limits, each content as its bytes; every page below the next is filled
-pub record Right (z : Sizes) (p : Plan) (logs : ℕ) (Within : ℕ → List (List Entry) → Book → Type 0) (n : ℕ) (ls : List (List Entry)) (f : ℕ → Box) : Type 0 where
+pub record Right (z : Sizes) (p : Plan) (logs : ℕ) (Limit : ℕ → List (List Entry) → Book → Type 0) (n : ℕ) (ls : List (List Entry)) (f : ℕ → Box) : Type 0 where
   pub book : Book
   pub sound : SoundBook z p ls book
-  pub within : Within n ls book
+  pub within : Limit n ls book
   pub count : length ls ≡ logs
   pub ledger : ledgerOr logs (f 0 .bytes) ≡ just (book .ledger)
   pub log : (l : ℕ) → l < logs → logOr (f (logBox l) .bytes) ≡ just (book .log l)
@@ -70,4 +71,15 @@ Spent logs x b = (y : Ledger) × (ledgerOr logs x ≡ just y) × Page′ y b
 -- THE THEOREM: for 2 to the 56 steps, of any plan and up to 256 logs, the book on bytes keeps the laws that a worker needs
 abbrev pub BookLaws : Type 0
 BookLaws =
-    (p : Plan) → T (planOk p) → (logs : ℕ) → logs ≤ 256 → Laws (real sizes p logs) p logs 72057594037927936 (Right sizes p logs (Fits sizes)) (OldLedger logs) (OldLog (p .late) logs) (Floor logs) (Spent logs)
+    (p : Plan) → T (planOk p) → (logs : ℕ) → logs ≤ 256 → Laws (real sizes p logs) p logs 72057594037927936 (Right sizes p logs (Within sizes)) (OldLedger logs) (OldLog (p .late) logs) (Floor logs) (Spent logs)
+
+-- and the ledger and the log boxes are below 256 KiB
+abbrev pub BookFits : Type 0
+BookFits =
+    (p : Plan) (logs n : ℕ) (ls : List (List Entry)) (f : ℕ → Box) → n ≤ 72057594037927936 → Right sizes p logs (Within sizes) n ls f → (b : ℕ) → ((b ≡ 0) ⊎ ((l : ℕ) × (l < logs) × (b ≡ logBox l))) → T (leb (length (f b .bytes)) 262144 && allBytes (f b .bytes))
+
+-- and once nothing is due and all logs are taken, an answer is all there is, up to as many as were asked for
+abbrev pub BookAnswersAll : Type 0
+BookAnswersAll =
+    (p : Plan) → T (planOk p) → (logs : ℕ) → logs ≤ 256 → (n : ℕ) (ls : List (List Entry)) (f : ℕ → Box) (r : Right sizes p logs (Within sizes) n ls f) → real sizes p logs .due (f 0 .bytes) ≡ nothing → AllTaken (p .late) ls (r .book .ledger .logs) → (from most : ℕ) (got es : List Event) →
+    Gathered (real sizes p logs) (λ b y. Spent logs (f 0 .bytes) b × (f b .bytes ≡ y)) from most (f 0 .bytes) got → real sizes p logs .answer from most (f 0 .bytes) got ≡ reply es → es ≡ firstOf most (dropOf from (out p ls))

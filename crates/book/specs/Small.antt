@@ -1,14 +1,13 @@
 -- The limits of the book's numbers and pages: what fits, and for how many steps.
 -- Assumes nothing.
-use mathlib.Core.Path.{_≡_}
-use mathlib.Core.List.{List, [], _∷_, _++_}
-use Prim.Native.Nat.{ℕ, zero, suc, _+_, _*_, _<_, _≤_}
+use mathlib.Core.List.{List, [], _∷_}
+use Prim.Native.Nat.{ℕ, suc, _+_, _*_, _<_, _≤_}
 use lib.Dec.{T}
 use lib.ListN.{length}
 use Rattle.streams.specs.Meaning.{Event, Entry, Stage, Plan, top}
 use Rattle.streams.specs.Calls.{entryOk}
 use Rattle.book.specs.Rows.{Key, Row}
-use Rattle.book.specs.Queue.{Link, Seg, Page, Blank, RowPage, IndexPage, Queue, Write}
+use Rattle.book.specs.Queue.{Seg, Page, Blank, RowPage, IndexPage, Queue, Write}
 use Rattle.book.specs.Due.{Sizes}
 use Rattle.book.specs.Words.{linkWord, Filled}
 use Rattle.book.specs.Book.{Book}

@@ -1,7 +1,7 @@
 use Rattle.book.specs.Real.{real, sizes}
+use Rattle.book.proofs.Laws.{book-safe}
 use Rattle.worker.proofs.Together.{worker-keeps}
-use Rattle.system.proofs.Book.{real-safe}
 use Rattle.system.proofs.busy_at_nine.Needs as need
 
 pub returns : need.returns
-returns c p ok logs one few = worker-keeps (real sizes p logs) p logs (real-safe p ok logs few) .1
+returns c p ok logs one few = worker-keeps (real sizes p logs) p logs (book-safe p ok logs few) .1
