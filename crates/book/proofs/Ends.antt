@@ -7,19 +7,21 @@ use Prim.Native.Nat.{ℕ, zero, suc, _+_, _*_, _<_, _≤_}
 use native.Mathlib.Nat.{suc-mul, mul-le-mul-right, mul-le-mul-left}
 use native.Mathlib.Omega.{arith}
 use lib.Dec.{ltb, leb}
-use lib.ListN.{length, length-append, length-drop}
+use lib.ListN.{length, length-append, length-drop, drop, drop-of-length-le}
 use Rattle.std.proofs.shelf.Tests.{leb-true, ltb-false, le-leb, and-from}
-use Rattle.streams.specs.Meaning.{Event, Entry, Plan, Stage}
+use Rattle.streams.specs.Meaning.{Event, Entry, Plan, Stage, inTime, lessBy}
 use Rattle.book.specs.Queue.{Pages, written, Queue, pageOf}
 use Rattle.book.specs.Held.{Held, queueOf, contents, rowsOf, levelOf}
 use Rattle.book.specs.Flow.{howOf, Flows}
+use lib.Seq.{drop-drop}
+use Rattle.streams.proofs.Logs.{lessBy-is}
 use Rattle.book.specs.Due.{Sizes, SizesOk, Sized, Sound, Step, Due, Nothing, Do, Crowd, calm, crowded, crowd, dueCrowd, dueRows, dueSource, due, shows, Done, do', fullest, take'}
-use Rattle.book.specs.Ledger.{LogBox, Taken, takenOf, setAt, watermark, hasRoom, Took, takeEvents, newEvents, tookTo, took, Task, Publish, Tidy, Wanted, Rest, Want, wantedBy, wanted, outWritten}
-use Rattle.book.specs.Book.{Book, SoundBook, PlanFine, takenEvents, outsOf, cameOut, turnOf, afterTurn}
-use Rattle.book.specs.Ends.{Turns, rests, goes, weights, ranks, mostSteps, EndsSoon, RoomToTake}
+use Rattle.book.specs.Ledger.{LogBox, Taken, takenOf, setAt, watermark, hasRoom, Took, takeEvents, newEvents, tookTo, took, Task, Publish, Tidy, Wanted, Rest, Want, wantedBy, wanted, outWritten, letGo}
+use Rattle.book.specs.Book.{Book, SoundBook, PlanFine, takenEvents, outsOf, cameOut, turnOf, afterTurn, LogRight, logOf}
+use Rattle.book.specs.Ends.{Turns, rests, goes, weights, ranks, mostSteps, EndsSoon, RoomToTake, RoomForBatch}
 use Rattle.book.proofs.Due.{load, Rank, Falls, weigh, Adv, advance, ready}
 use Rattle.book.proofs.Deep.{lows-few, level-few, weigh-few, load-rows}
-use Rattle.book.proofs.Book.{sound-turn, rest-due, publish-out}
+use Rattle.book.proofs.Book.{sound-turn, rest-due, publish-out, logs-at}
 use Rattle.book.proofs.Numbers.{took-more}
 
 -- A STEP OF THE QUEUE, with what falls
@@ -268,3 +270,21 @@ room-to-take z p x e = (room, takes)
         let t : Taken = takenOf l (x .logs) in
         let k : Took = takeEvents z (p .stages) (newEvents b t) (t .taken) (x .queue) in
         subst (λ (u : Taken). t .taken < u .taken) (sym (taken-set l (tookTo b t (k .taken)) (x .logs) h)) (takes-one z (p .stages) (newEvents b t) (t .taken) (x .queue) room n)
+
+-- ROOM FOR A BATCH
+pub room-for-batch : RoomForBatch
+unfolding letGo
+room-for-batch z p ls x l s h e =
+    ap (drop (lessBy (b .base) (t .taken))) (r .holds .events) ∙ drop-drop (lessBy (b .base) (t .taken)) (b .base) es ∙ drop-of-length-le es (omega (arith, e, r .base, lessBy-is (b .base) (t .taken)))
+  where
+    t : Taken
+    t = takenOf l (x .ledger .logs)
+
+    b : LogBox
+    b = x .log l
+
+    es : List Event
+    es = inTime (p .late) 0 (logOf l ls)
+
+    r : LogRight (p .late) (logOf l ls) t b
+    r = subst (λ (j : ℕ). LogRight (p .late) (logOf l ls) t (x .log j)) (omega arith) (logs-at (p .late) (x .log) 0 l ls (x .ledger .logs) h (s .logs))

@@ -1,31 +1,33 @@
 -- The real sizes and every plan will do: the laws hold.
-use mathlib.Core.Path.{_≡_, refl, sym, subst}
+use mathlib.Core.Path.{_≡_, refl, sym, subst, ap, _∙_}
 use mathlib.Core.Logic.{inl, inr}
-use mathlib.Core.Bool.{Bool, true, false, _&&_}
-use mathlib.Core.List.{List, [], _∷_}
-use Prim.Native.Nat.{ℕ, _*_, _≤_}
+use mathlib.Core.Bool.{Bool, true, false, _&&_, cond, not}
+use mathlib.Core.List.{List, [], _∷_, _++_, append-nil}
+use Prim.Native.Nat.{ℕ, suc, _+_, _*_, _<_, _≤_}
 use native.Mathlib.Omega.{arith}
 use lib.Dec.{ltb, leb, T, ltb→lt, leb→le}
 use lib.ListN.{length, length-append}
-use Rattle.std.proofs.shelf.Tests.{and-from, le-leb}
-use Rattle.streams.specs.Hands.{allBytes}
-use Rattle.streams.specs.Meaning.{Stage, Plan}
+use Rattle.std.proofs.shelf.Tests.{and-from, le-leb, lt-ltb, le-ltb}
+use Rattle.streams.specs.Hands.{allBytes, Box}
+use Rattle.streams.specs.Meaning.{Stage, Plan, Entry, top}
 use Rattle.streams.specs.Calls.{every, stageOk, fine, planOk}
+use Rattle.book.specs.Queue.{Write}
+use Rattle.book.proofs.Book.{sound-take, logs-at}
 use Rattle.book.specs.Due.{Sizes, SizesOk, Sized}
-use Rattle.book.specs.Book.{PlanFine}
+use Rattle.book.specs.Book.{PlanFine, Book, LogRight, HeldOnce, logOf, takeInto}
 use Rattle.book.specs.Small.{StagesFit, Fits, SizesSmall, PlanSmall}
 use Rattle.book.specs.Limits.{Limits}
 use Rattle.book.specs.Levels.{Within}
-use Rattle.book.specs.Ledger.{Served, LogBox, Ledger, workers, logBox}
-use Rattle.book.specs.Words.{just, bytesOf, writeAll, writeList, writeEvent, writeServed, writeLog, writeLedger, AreWords}
-use Rattle.book.specs.Real.{sizes, logOr, ledgerOr, real}
-use Rattle.book.specs.Interface.{Safe}
-use Rattle.book.specs.Right.{Right, OldLedger, OldLog, Floor, Spent, BookLaws, BookFits, BookAnswersAll}
-use Rattle.book.proofs.Limits.{limits, events-long}
+use Rattle.book.specs.Ledger.{Served, LogBox, Ledger, workers, logBox, isOld, took, takenOf, Wanted, Rest, Want, wanted, Publish, Tidy, OutWrite, Turn, does, watermark}
+use Rattle.book.specs.Words.{just, bytesOf, writeAll, writeList, writeEvent, writeServed, writeLog, writeLedger, AreWords, Maybe, pageIn}
+use Rattle.book.specs.Real.{sizes, logOr, ledgerOr, real, allWords, writes, rowFillings, outFillings, takeBy, dueBy, pagesBy, turnBy, orBlank}
+use Rattle.book.specs.Interface.{Safe, lacks, gives, nothing}
+use Rattle.book.specs.Right.{Right, OldLedger, OldLog, Floor, Spent, BookLaws, BookFits, BookAnswersAll, BookTakes}
+use Rattle.book.proofs.Limits.{limits, events-long, ledger-fits, writes-few}
 use Rattle.book.proofs.Room.{room-kept}
 use Rattle.book.proofs.Levels.{levels-kept, ledger-short}
 use Rattle.book.proofs.Words.{reads-back}
-use Rattle.book.proofs.Real.{bytes-long, bytes-bytes}
+use Rattle.book.proofs.Real.{bytes-long, bytes-bytes, calls-none}
 use Rattle.book.proofs.Safe.{laws, answers-all}
 
 and-left : (a b : Bool) → T (a && b) → T a
@@ -125,3 +127,69 @@ pub book-fits : BookFits
 book-fits p logs n ls f h r b (inl e) =
     subst (λ (c : ℕ). T (leb (length (f c .bytes)) 262144 && allBytes (f c .bytes))) (sym e) (ledger-bytes logs (f 0 .bytes) (r .book .ledger) (r .ledger) (omega (arith, bytes-long (writeLedger (r .book .ledger)), ledger-short p n ls (r .book) h (r .sound) (r .within .fits) (r .within .room) (r .within .levels))))
 book-fits p logs n ls f h r b (inr (l, hl, e)) = subst (λ (c : ℕ). T (leb (length (f c .bytes)) 262144 && allBytes (f c .bytes))) (sym e) (log-bytes (f (logBox l) .bytes) (r .book .log l) (r .log l hl) (r .within .room .log l))
+
+-- TAKING
+all-words : (ws : List ℕ) → AreWords ws → allWords ws ≡ true
+unfolding allWords
+all-words [] h = refl
+all-words (w ∷ ws) h = and-from (ltb w top) (allWords ws) (lt-ltb w top (h .0)) (all-words ws (h .1))
+
+writes-given : (b : Bool) (ws : List ℕ) → b ≡ true → AreWords ws → writes b ws ≡ lacks → ⊥
+writes-given b ws h a e = let t : gives (bytesOf ws) ≡ lacks = sym (ap (λ (c : Bool). cond c (gives (bytesOf ws)) lacks) (and-from b (allWords ws) h (all-words ws a))) ∙ e in (let k : _≡_ {A = ℕ} 0 1 = cc in omega arith)
+
+few-rows : (ws : List Write) → length (rowFillings ws) ≡ length ws
+unfolding rowFillings
+few-rows [] = refl
+few-rows (w ∷ ws) = ap suc (few-rows ws)
+
+few-outs : (ws : List OutWrite) → length (outFillings ws) ≡ length ws
+unfolding outFillings
+few-outs [] = refl
+few-outs (w ∷ ws) = ap suc (few-outs ws)
+
+not-old : (l : ℕ) (b : LogBox) (x : Ledger) → b .base ≤ takenOf l (x .logs) .taken → isOld l b x ≡ false
+unfolding isOld
+not-old l b x h = le-ltb (takenOf l (x .logs) .taken) (b .base) h
+
+few-by : (p : Plan) (shown : List ℕ) (m : Maybe Ledger) → length (pagesBy sizes p shown m) ≤ 2
+unfolding pagesBy turnBy
+few-by p shown Rattle.book.specs.Words.nothing = omega arith
+few-by p shown (just x) = go (wanted sizes (p .late) x)
+  where
+    both : (t : Turn) → length (t .rows) + length (t .outs) ≤ 2 → length (rowFillings (t .rows) ++ outFillings (t .outs)) ≤ 2
+    both t h = omega (arith, h, length-append (rowFillings (t .rows)) (outFillings (t .outs)), few-rows (t .rows), few-outs (t .outs))
+
+    go : (w : Wanted) → length (rowFillings (turnBy sizes p w (orBlank (pageIn shown)) x .rows) ++ outFillings (turnBy sizes p w (orBlank (pageIn shown)) x .outs)) ≤ 2
+    go Rest = both (record { ledger = x; rows = []; outs = [] }) (omega arith)
+    go (Want Publish) = both (does sizes p Publish (orBlank (pageIn shown)) x) (omega arith)
+    go (Want (Tidy step)) = both (does sizes p (Tidy step) (orBlank (pageIn shown)) x) (omega (arith, writes-few sizes (p .stages) (watermark (p .late) (x .logs)) step (orBlank (pageIn shown)) (x .queue)))
+
+pub book-takes : BookTakes
+unfolding takeBy dueBy
+book-takes p ok logs hl = (takes, few)
+  where
+    takes : (n : ℕ) (ls : List (List Entry)) (f : ℕ → Box) → n < 72057594037927936 → Right sizes p logs (Within sizes) n ls f → real sizes p logs .due (f 0 .bytes) ≡ nothing → (l : ℕ) → l < logs → real sizes p logs .take (f 0 .bytes) l (f (logBox l) .bytes) ≡ lacks → ⊥
+    takes n ls f h r d l hx e =
+        writes-given (not (isOld l b (x .ledger))) (writeLedger (took sizes (p .stages) l b (x .ledger))) (ap not new) (ledger-fits sizes p n ls (takeInto sizes p l b x) sizes-small (omega (arith, h)) (sound-take sizes p ls x l b (plan-fine p ok) (r .sound) (omega (arith, hx, r .count)) once new) (all-limits sizes sizes-ok sizes-small p (plan-fine p ok) (plan-small p ok) logs hl .take l b h (r .sound) (r .within) rest hx once new .fits))
+        (sym (ap (λ (m : Maybe LogBox). takeBy sizes p l m (ledgerOr logs (f 0 .bytes))) (r .log l hx) ∙ ap (takeBy sizes p l (just b)) (r .ledger)) ∙ e)
+      where
+        x : Book
+        x = r .book
+
+        b : LogBox
+        b = x .log l
+
+        right : LogRight (p .late) (logOf l ls) (takenOf l (x .ledger .logs)) b
+        right = subst (λ (j : ℕ). LogRight (p .late) (logOf l ls) (takenOf l (x .ledger .logs)) (x .log j)) (omega arith) (logs-at (p .late) (x .log) 0 l ls (x .ledger .logs) (omega (arith, hx, r .count)) (r .sound .logs))
+
+        once : HeldOnce (p .late) (logOf l ls) b
+        once = record { seen = logOf l ls; rest = []; is = sym (append-nil (logOf l ls)); holds = right .holds }
+
+        new : isOld l b (x .ledger) ≡ false
+        new = not-old l b (x .ledger) (right .base)
+
+        rest : wanted sizes (p .late) (x .ledger) ≡ Rest
+        rest = calls-none (wanted sizes (p .late) (x .ledger)) (x .ledger) (sym (ap (dueBy sizes p) (r .ledger)) ∙ d)
+
+    few : (y shown : List ℕ) → length (real sizes p logs .pages y shown) ≤ 2
+    few y shown = few-by p shown (ledgerOr logs y)

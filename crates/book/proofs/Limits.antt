@@ -268,7 +268,7 @@ queue-counts sts m es f q os s = (
   omega (arith, ap (λ (x : Queue). length (x .segments)) (s .is), s .few, heads-few Rattle.book.specs.Held.Free (s .held .segs) (s .order .segs), lows-few (howOf sts) (s .held) (s .order) (s .alive)),
 )
 
-ledger-fits : (z : Sizes) (p : Plan) (m : ℕ) (ls : List (List Entry)) (x : Book) → SizesSmall z → m ≤ 72057594037927936 → SoundBook z p ls x → Fits z m ls x → AreWords (writeLedger (x .ledger))
+pub ledger-fits : (z : Sizes) (p : Plan) (m : ℕ) (ls : List (List Entry)) (x : Book) → SizesSmall z → m ≤ 72057594037927936 → SoundBook z p ls x → Fits z m ls x → AreWords (writeLedger (x .ledger))
 ledger-fits z p m ls x sz h s f = (
   omega (arith, f .outs, h),
   words-append (writeList writeTaken (y .logs)) (writeList writeEvent (y .tail) ++ writeQueue (y .queue)) (omega (arith, f .count, logs-long (p .late) (x .log) 0 ls (y .logs) (s .logs)), takens-words (p .late) (x .log) 0 ls (y .logs) m h (f .many) (f .entries) (s .logs))

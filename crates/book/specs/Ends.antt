@@ -2,13 +2,13 @@
 -- Assumes nothing.
 use mathlib.Core.Path.{_≡_}
 use mathlib.Core.Bool.{true}
-use mathlib.Core.List.{List}
+use mathlib.Core.List.{List, []}
 use Prim.Native.Nat.{ℕ, suc, _+_, _*_, _<_, _≤_}
 use lib.ListN.{length}
-use Rattle.streams.specs.Meaning.{Entry, Plan}
+use Rattle.streams.specs.Meaning.{Entry, Plan, inTime}
 use Rattle.book.specs.Due.{Sizes, SizesOk}
-use Rattle.book.specs.Ledger.{LogBox, Ledger, takenOf, hasRoom, newEvents, took, Task, Rest, Want, wanted}
-use Rattle.book.specs.Book.{Book, SoundBook, PlanFine, takenEvents, turnOf, afterTurn}
+use Rattle.book.specs.Ledger.{LogBox, Ledger, takenOf, hasRoom, newEvents, took, Task, Rest, Want, wanted, letGo}
+use Rattle.book.specs.Book.{Book, SoundBook, PlanFine, takenEvents, turnOf, afterTurn, logOf}
 
 -- so many steps that are due, one after the other
 pub data Turns (z : Sizes) (p : Plan) : ℕ → Book → Book → Type 0 where
@@ -36,3 +36,8 @@ abbrev pub RoomToTake : Type 0
 RoomToTake =
     (z : Sizes) (p : Plan) (x : Ledger) → wanted z (p .late) x ≡ Rest → (hasRoom z (x .queue) ≡ true) ×
     ((l : ℕ) (b : LogBox) → l < length (x .logs) → 1 ≤ length (newEvents b (takenOf l (x .logs))) → takenOf l (x .logs) .taken < takenOf l (took z (p .stages) l b x .logs) .taken)
+
+-- once all that a log holds is taken, its box is empty when that is let go: so there is room for a batch
+abbrev pub RoomForBatch : Type 0
+RoomForBatch =
+    (z : Sizes) (p : Plan) (ls : List (List Entry)) (x : Book) (l : ℕ) → SoundBook z p ls x → l < length ls → takenOf l (x .ledger .logs) .taken ≡ length (inTime (p .late) 0 (logOf l ls)) → letGo (takenOf l (x .ledger .logs) .taken) (x .log l) .events ≡ []

@@ -15,7 +15,7 @@ use Rattle.book.specs.Ledger.{LogBox, takenOf, Ledger, logBox, rowBox, outBox}
 use Rattle.book.specs.Words.{just, pageIn, outIn}
 use Rattle.book.specs.Book.{Book, SoundBook, outsOf, HeldOnce, logOf, AllTaken}
 use Rattle.book.specs.Levels.{Within}
-use Rattle.book.specs.Interface.{nothing, reply, Gathered, Laws}
+use Rattle.book.specs.Interface.{lacks, nothing, reply, Gathered, Laws}
 use Rattle.book.specs.Real.{sizes, logOr, ledgerOr, orNone, floorOf, real}
 
 -- THE BOXES ARE RIGHT: they hold a book that is right for the logs and within its limits, each content as its bytes; every page below the next is filled
@@ -83,3 +83,10 @@ abbrev pub BookAnswersAll : Type 0
 BookAnswersAll =
     (p : Plan) → T (planOk p) → (logs : ℕ) → logs ≤ 256 → (n : ℕ) (ls : List (List Entry)) (f : ℕ → Box) (r : Right sizes p logs (Within sizes) n ls f) → real sizes p logs .due (f 0 .bytes) ≡ nothing → AllTaken (p .late) ls (r .book .ledger .logs) → (from most : ℕ) (got es : List Event) →
     Gathered (real sizes p logs) (λ b y. Spent logs (f 0 .bytes) b × (f b .bytes ≡ y)) from most (f 0 .bytes) got → real sizes p logs .answer from most (f 0 .bytes) got ≡ reply es → es ≡ firstOf most (dropOf from (out p ls))
+
+-- and with nothing due, what is new in a log's box can be taken; and a step fills two pages at most
+abbrev pub BookTakes : Type 0
+BookTakes =
+    (p : Plan) → T (planOk p) → (logs : ℕ) → logs ≤ 256 →
+    ((n : ℕ) (ls : List (List Entry)) (f : ℕ → Box) → n < 72057594037927936 → Right sizes p logs (Within sizes) n ls f → real sizes p logs .due (f 0 .bytes) ≡ nothing → (l : ℕ) → l < logs → real sizes p logs .take (f 0 .bytes) l (f (logBox l) .bytes) ≡ lacks → ⊥) ×
+    ((x shown : List ℕ) → length (real sizes p logs .pages x shown) ≤ 2)
