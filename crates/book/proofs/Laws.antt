@@ -11,16 +11,16 @@ use Rattle.std.proofs.shelf.Tests.{and-from, le-leb, lt-ltb, le-ltb}
 use Rattle.streams.specs.Hands.{allBytes, Box}
 use Rattle.streams.specs.Meaning.{Stage, Plan, Entry, top}
 use Rattle.streams.specs.Calls.{every, stageOk, fine, planOk}
-use Rattle.book.specs.Queue.{Write}
+use Rattle.book.specs.Queue.{Link, nil, page, Page, Blank, Write}
 use Rattle.book.proofs.Book.{sound-take, logs-at}
 use Rattle.book.specs.Due.{Sizes, SizesOk, Sized}
 use Rattle.book.specs.Book.{PlanFine, Book, LogRight, HeldOnce, logOf, takeInto}
 use Rattle.book.specs.Small.{StagesFit, Fits, SizesSmall, PlanSmall}
 use Rattle.book.specs.Limits.{Limits}
 use Rattle.book.specs.Levels.{Within}
-use Rattle.book.specs.Ledger.{Served, LogBox, Ledger, workers, logBox, isOld, took, takenOf, Wanted, Rest, Want, wanted, Publish, Tidy, OutWrite, Turn, does, watermark}
+use Rattle.book.specs.Ledger.{Served, LogBox, Ledger, workers, logBox, isOld, took, takenOf, Wanted, Rest, Want, wanted, Publish, Tidy, OutWrite, Turn, does, watermark, Task, showsOf}
 use Rattle.book.specs.Words.{just, bytesOf, writeAll, writeList, writeEvent, writeServed, writeLog, writeLedger, AreWords, Maybe, pageIn}
-use Rattle.book.specs.Real.{sizes, logOr, ledgerOr, real, allWords, writes, rowFillings, outFillings, takeBy, dueBy, pagesBy, turnBy, orBlank}
+use Rattle.book.specs.Real.{sizes, logOr, ledgerOr, real, allWords, writes, rowFillings, outFillings, takeBy, dueBy, pagesBy, rests, turnOn, turnBy}
 use Rattle.book.specs.Interface.{Safe, lacks, gives, nothing}
 use Rattle.book.specs.Right.{Right, OldLedger, OldLog, Floor, Spent, BookLaws, BookFits, BookAnswersAll, BookTakes}
 use Rattle.book.proofs.Limits.{limits, events-long, ledger-fits, writes-few}
@@ -152,17 +152,25 @@ unfolding isOld
 not-old l b x h = le-ltb (takenOf l (x .logs) .taken) (b .base) h
 
 few-by : (p : Plan) (shown : List ℕ) (m : Maybe Ledger) → length (pagesBy sizes p shown m) ≤ 2
-unfolding pagesBy turnBy
+unfolding pagesBy turnBy turnOn
 few-by p shown Rattle.book.specs.Words.nothing = omega arith
 few-by p shown (just x) = go (wanted sizes (p .late) x)
   where
     both : (t : Turn) → length (t .rows) + length (t .outs) ≤ 2 → length (rowFillings (t .rows) ++ outFillings (t .outs)) ≤ 2
     both t h = omega (arith, h, length-append (rowFillings (t .rows)) (outFillings (t .outs)), few-rows (t .rows), few-outs (t .outs))
 
-    go : (w : Wanted) → length (rowFillings (turnBy sizes p w (orBlank (pageIn shown)) x .rows) ++ outFillings (turnBy sizes p w (orBlank (pageIn shown)) x .outs)) ≤ 2
-    go Rest = both (record { ledger = x; rows = []; outs = [] }) (omega arith)
-    go (Want Publish) = both (does sizes p Publish (orBlank (pageIn shown)) x) (omega arith)
-    go (Want (Tidy step)) = both (does sizes p (Tidy step) (orBlank (pageIn shown)) x) (omega (arith, writes-few sizes (p .stages) (watermark (p .late) (x .logs)) step (orBlank (pageIn shown)) (x .queue)))
+    few : (k : Task) (g : Page) → length (rowFillings (does sizes p k g x .rows) ++ outFillings (does sizes p k g x .outs)) ≤ 2
+    few Publish g = both (does sizes p Publish g x) (omega arith)
+    few (Tidy step) g = both (does sizes p (Tidy step) g x) (omega (arith, writes-few sizes (p .stages) (watermark (p .late) (x .logs)) step g (x .queue)))
+
+    on : (k : Task) (l : Link) (g : Maybe Page) → length (rowFillings (turnOn sizes p k l g x .rows) ++ outFillings (turnOn sizes p k l g x .outs)) ≤ 2
+    on k nil g = few k Blank
+    on k (page n) Rattle.book.specs.Words.nothing = both (rests x) (omega arith)
+    on k (page n) (just g) = few k g
+
+    go : (w : Wanted) → length (rowFillings (turnBy sizes p w (pageIn shown) x .rows) ++ outFillings (turnBy sizes p w (pageIn shown) x .outs)) ≤ 2
+    go Rest = both (rests x) (omega arith)
+    go (Want k) = on k (showsOf k x) (pageIn shown)
 
 pub book-takes : BookTakes
 unfolding takeBy dueBy

@@ -12,14 +12,14 @@ use Rattle.std.proofs.shelf.Tests.{eq-eqb, ne-eqb, eqb-true, le-leb, leb-true, 
 use Rattle.streams.specs.Meaning.{Event, Entry, Plan, out, lessBy}
 use Rattle.streams.specs.Calls.{entryOk, empties, putIn, dropOf, firstOf}
 use Rattle.streams.specs.Hands.{Box, at, allBytes}
-use Rattle.book.specs.Queue.{Link, nil, page, Page, Write, written, pageOf}
+use Rattle.book.specs.Queue.{Link, nil, page, Page, Write, written, pageOf, Blank}
 use Rattle.book.specs.Due.{Sizes, SizesOk}
 use Rattle.book.specs.Ledger.{Served, LogBox, emptyLog, workers, letGo, batched, takenOf, Ledger, watermark, isOld, took, Task, Wanted, Rest, Want, wanted, showsOf, OutWrite, outWritten, Turn, does, rowBox, outBox, logBox}
 use Rattle.book.specs.Words.{Maybe, nothing, just, bytesOf, AreWords, writeLog, writeLedger, writePage, writeOut, pageIn, outIn, Filled}
 use Rattle.book.specs.Book.{Book, emptyBook, LogRight, outsOf, cameOut, SoundBook, PlanFine, setLog, putAll, putBatch, takeInto, turnOf, afterTurn, logOf, AllTaken}
 use Rattle.book.specs.Numbers.{Moves, Among, itself, batch, takes, turn, Grows}
 use Rattle.book.specs.Interface.{gives, Calls, withPage, reply, Filling, Ops, IsPage, Now, Gathered, noPage, onePage, Tag, Stays, Laws}
-use Rattle.book.specs.Real.{logOr, ledgerOr, orBlank, orNone, hasBy, servedOf, floorOf, addsBy, raiseBy, callsOf, callsFor, dueBy, turnBy, turnFor, afterBy, rowFillings, outFillings, pagesBy, takeBy, answerBy, real}
+use Rattle.book.specs.Real.{logOr, ledgerOr, orNone, hasBy, servedOf, floorOf, addsBy, raiseBy, callsOf, callsFor, dueBy, rests, turnOn, turnBy, turnFor, afterBy, rowFillings, outFillings, pagesBy, takeBy, answerBy, real}
 use Rattle.book.specs.Limits.{Limits}
 use Rattle.book.specs.Right as R
 use Rattle.book.specs.Right.{outIn′, cameIn, Page′}
@@ -143,18 +143,16 @@ module _ (z : Sizes) (zo : SizesOk z) (p : Plan) (fine : PlanFine p) (logs bound
     want : wanted z (p .late) (r .book .ledger) ≡ Want task
     is : turnFor z p x (r .book .ledger) ≡ turnOf z p task (r .book)
 
-  no-words : pageIn [] ≡ nothing
-  unfolding Rattle.book.specs.Words.wordsOf Rattle.book.specs.Words.readBy Rattle.book.specs.Words.whole Rattle.book.specs.Words.readPage
-  no-words = refl
-
   doing-by : (n : ℕ) (ls : List (List Entry)) (f : ℕ → Box) (r : Right n ls f) (x : List ℕ) (w : Wanted) → wanted z (p .late) (r .book .ledger) ≡ w → Now f (callsOf w (r .book .ledger)) x → Doing n ls f r x
-  unfolding callsOf turnBy orBlank
+  unfolding callsOf turnBy turnOn
   doing-by n ls f r x Rest e h = absurd h
-  doing-by n ls f r x (Want k) e h = record { task = k; want = e; is = ap (λ (v : Wanted). turnBy z p v (orBlank (pageIn x)) (r .book .ledger)) e ∙ ap (λ (g : Page). does z p k g (r .book .ledger)) (shown (showsOf k (r .book .ledger)) refl h) }
+  doing-by n ls f r x (Want k) e h = record { task = k; want = e; is = ap (λ (v : Wanted). turnBy z p v (pageIn x) (r .book .ledger)) e ∙ shown (showsOf k (r .book .ledger)) refl h }
     where
-      shown : (l : Link) → showsOf k (r .book .ledger) ≡ l → Now f (callsFor l) x → orBlank (pageIn x) ≡ pageOf (r .book .row) (showsOf k (r .book .ledger))
-      shown nil q u = ap (λ (y : List ℕ). orBlank (pageIn y)) u ∙ ap orBlank no-words ∙ sym (ap (pageOf (r .book .row)) q)
-      shown (page m) q u = ap (λ (y : List ℕ). orBlank (pageIn y)) (sym u) ∙ ap orBlank (r .row m (shown-below (p .stages) (watermark (p .late) (r .book .ledger .logs)) (Rattle.book.specs.Book.takenEvents (p .late) ls (r .book .ledger .logs)) (r .book .row) (r .book .ledger) (cameOut (r .book)) k m (r .sound .queue) q) .1) ∙ sym (ap (pageOf (r .book .row)) q)
+      shown : (l : Link) → showsOf k (r .book .ledger) ≡ l → Now f (callsFor l) x → turnOn z p k l (pageIn x) (r .book .ledger) ≡ does z p k (pageOf (r .book .row) l) (r .book .ledger)
+      shown nil q u = refl
+      shown (page m) q u =
+          ap (λ (g : Maybe Page). turnOn z p k (page m) g (r .book .ledger))
+          (ap pageIn (sym u) ∙ r .row m (shown-below (p .stages) (watermark (p .late) (r .book .ledger .logs)) (Rattle.book.specs.Book.takenEvents (p .late) ls (r .book .ledger .logs)) (r .book .row) (r .book .ledger) (cameOut (r .book)) k m (r .sound .queue) q) .1)
 
   doing : (n : ℕ) (ls : List (List Entry)) (f : ℕ → Box) (r : Right n ls f) (x : List ℕ) → Now f (real z p logs .due (f 0 .bytes)) x → Doing n ls f r x
   doing n ls f r x h = doing-by n ls f r x (wanted z (p .late) (r .book .ledger)) refl (subst (λ (c : Calls). Now f c x) (due-is (f 0 .bytes) (r .book .ledger) (r .ledger)) h)
@@ -251,12 +249,20 @@ module _ (z : Sizes) (zo : SizesOk z) (p : Plan) (fine : PlanFine p) (logs bound
       go (just y) q = subst IsPage (sym (answer-tells from most y got b q .1)) (out-is-page ((from + length got) / z .outs))
 
   moves-for : (shown : List ℕ) (y : Ledger) → Moves y (turnFor z p shown y)
-  unfolding turnBy
+  unfolding turnBy turnOn
   moves-for shown y = go (wanted z (p .late) y)
     where
-      go : (w : Wanted) → Moves y (turnBy z p w (orBlank (pageIn shown)) y)
-      go Rest = record { rows = tt; next = omega arith; outs = tt; pages = omega arith }
-      go (Want k) = steps-move z p k (orBlank (pageIn shown)) y
+      still : Moves y (rests y)
+      still = record { rows = tt; next = omega arith; outs = tt; pages = omega arith }
+
+      on : (k : Task) (l : Link) (g : Maybe Page) → Moves y (turnOn z p k l g y)
+      on k nil g = steps-move z p k Blank y
+      on k (page n) nothing = still
+      on k (page n) (just g) = steps-move z p k g y
+
+      go : (w : Wanted) → Moves y (turnBy z p w (pageIn shown) y)
+      go Rest = still
+      go (Want k) = on k (showsOf k y) (pageIn shown)
 
   called-one : (y : Ledger) (t : Turn) (a b : Filling) → Moves y t → Called t a → Called t b → a .box ≡ b .box → a .bytes ≡ b .bytes
   called-one y t a b m (a-row w i e) (a-row v j g) h =

@@ -32,6 +32,7 @@ pub record Live (o : Ops) (p : Plan) (logs : ℕ) (P : Safe o p logs) : Type 1 w
       work (f 0 .bytes) (at (a .box) (record { edition = 1; bytes = a .bytes }) f) ≤ work (f 0 .bytes) f
   pub work-step : {n k : ℕ} {ls ms : List (List Entry)} {f : ℕ → Box} (e : ℕ) → n < P .bound → k < P .bound → P .Sound n ls f → (x : List ℕ) → Now f (o .due (f 0 .bytes)) x → P .Sound k ms (at 0 (record { edition = e; bytes = o .after (f 0 .bytes) x }) f) →
       work (o .after (f 0 .bytes) x) f < work (f 0 .bytes) f
+  pub step-differs : {n : ℕ} {ls : List (List Entry)} {f : ℕ → Box} → n < P .bound → P .Sound n ls f → (x : List ℕ) → Now f (o .due (f 0 .bytes)) x → o .differs (f 0 .bytes) (o .after (f 0 .bytes) x) ≡ true
   pub took-step : {n : ℕ} {ls : List (List Entry)} {f : ℕ → Box} → n < P .bound → P .Sound n ls f → (x : List ℕ) → Now f (o .due (f 0 .bytes)) x → (l : ℕ) → Took (f 0 .bytes) l (f (logBox l) .bytes) → Took (o .after (f 0 .bytes) x) l (f (logBox l) .bytes)
   -- taking
   pub differs-not : (x y : List ℕ) → o .differs x y ≡ false → x ≡ y

@@ -13,7 +13,7 @@ use Rattle.streams.specs.Calls.{Call, Put, Out', Drop, Reply, No, Yes, Outs, en
 use Rattle.streams.specs.Hands.{Box, In, From, Shown, Filled, Ask, Beat, Tell, here, Seen, Scene, Goes, countAt, Way}
 use Rattle.book.specs.Ledger.{logBox}
 use Rattle.book.specs.Interface.{Gives, lacks, gives, Calls, nothing, alone, withPage, Next, page, reply, Filling, Ops}
-use Rattle.worker.specs.Worker.{Job, Batch, none, some, Phase, rest, log, put, ledger, page', written, kept, look, answer', gather, Keep, Mind, Told, Asks, none', show, fill, Step, keepIf, entries, stays, asks, keeping, hearing, looking, waits, fixed, settled', forLog, yeses, isNothing, readLedger, startCall, startBy, start, idleBy, idle, settle, fillLog, putting, onLogBy, onPutBy, write, nextLog, onLedgerBy, onLedger, tookBy, gatherBy, gathers, onShown, onFilled, refuses, accepts, judges, acts, putsOf, isRest, telling, asking', worker, lessOne}
+use Rattle.worker.specs.Worker.{Job, Batch, none, some, Phase, rest, log, put, ledger, page', written, kept, look, answer', gather, Keep, Mind, Told, Asks, none', show, fill, Step, keepIf, entries, stays, asks, keeping, hearing, looking, waits, fixed, settled', forLog, yeses, isNothing, readLedger, startCall, startBy, start, idleBy, idle, settle, fillLog, putting, onLogBy, onPutBy, write, nextLog, onLedgerBy, onLedger, tookBy, gatherBy, gathers, onShown, onFilled, refuses, accepts, judges, acts, putsOf, isRest, telling, asking', worker, lessOne, isNoPage}
 use Rattle.worker.proofs.Laws.{Laws}
 use Rattle.shelf.proofs.Places.{all-cons, all-none}
 use Rattle.shelf.proofs.Counts.{minds-wait, Differ, count-at}
@@ -125,7 +125,7 @@ module _ (o : Ops) (logs : ℕ) where
     can-shown x (log l) is = can-log l x (m .keep .batch) refl
     can-shown x put is = keeps refl refl
     can-shown x ledger is = of-kp (onLedger o logs m1 x) (kp-ledger (looking m1 (o .raise (x .bytes) (m .floor)) (m .place) (m .left)) x (o .due (x .bytes)))
-    can-shown x (page' e l b) is = cond-both (eqb (x .edition) 0) (readLedger o logs m1) (write o logs m1 e (o .pages l (x .bytes)) (o .after l (x .bytes))) (Can' y m) (λ t. keeps refl refl) (λ t. of-kp (write o logs m1 e (o .pages l (x .bytes)) (o .after l (x .bytes))) (kp-write m1 e (o .pages l (x .bytes)) (o .after l (x .bytes))))
+    can-shown x (page' e l b) is = cond-both (isNoPage o logs l x) (readLedger o logs m1) (write o logs m1 e (o .pages l (x .bytes)) (o .after l (x .bytes))) (Can' y m) (λ t. keeps refl refl) (λ t. of-kp (write o logs m1 e (o .pages l (x .bytes)) (o .after l (x .bytes))) (kp-write m1 e (o .pages l (x .bytes)) (o .after l (x .bytes))))
     can-shown x (written e t ts l) is = keeps refl refl
     can-shown x kept is = keeps refl refl
     can-shown x (look e l c n) is = of-kp (tookBy o logs m1 e l c n (o .take l n (x .bytes))) (kp-took m1 e l c n (o .take l n (x .bytes)))

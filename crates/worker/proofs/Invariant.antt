@@ -9,14 +9,14 @@ use Prim.Native.Nat.{ℕ, suc, _+_, _≤_, _<_}
 use native.Mathlib.Omega.{arith}
 use lib.Dec.{eqb, ltb, leb, T}
 use lib.ListN.{length}
-use Rattle.std.proofs.shelf.Tests.{eqb-true, eqb-false, eq-eqb, cond-both, or-left, or-right, cases-bool, and-parts, both-ways, ltb-true, ltb-false, leb-true, leb-false}
+use Rattle.std.proofs.shelf.Tests.{eqb-true, eqb-false, eq-eqb, cond-both, or-left, or-right, cases-bool, and-parts, both-ways, ltb-true, ltb-false, leb-true, leb-false, or-parts}
 use Rattle.streams.specs.Meaning.{Event, Plan, out}
 use Rattle.streams.specs.Calls.{Call, Put, Out', Drop, Reply, No, Yes, Outs, State, entryOk, core, dropOf, firstOf, Answers, outs, badPut, noLog, tooMany, not-yet}
 use Rattle.streams.specs.Hands.{Box, In, Ask, Way, word, wantsBox, wantsFill, shows, says, Stand, away, here, Seen, called, told, isUsed, isIn, at, Open, Ready, fillable, allBytes, Comes, a-word, a-box, a-filling, a-beat}
 use Rattle.book.specs.Ledger.{logBox}
 use Rattle.book.specs.Book.{putAll}
 use Rattle.book.specs.Interface.{Gives, lacks, gives, Calls, nothing, alone, withPage, Next, page, reply, Filling, Ops, IsPage, Gathered, noPage, onePage, Tag}
-use Rattle.worker.specs.Worker.{stays, asks, keeping, hearing, looking, waits, fixed, settled', saying, forLog, yeses, isNothing, readLedger, startCall, startBy, start, idleBy, idle, settle, fillLog, putting, onLogBy, onPutBy, write, nextLog, onLedgerBy, onLedger, onPage, tookBy, gatherBy, gathers, onShown, onFilled, refuses, accepts, judges, acts, putsOf, isRest, worker, lessOne, Job, Batch, none, some, Phase, rest, log, put, ledger, page', written, kept, look, answer', gather, Keep, Mind, Told, Asks, none', show, fill, Step, keepIf, entries}
+use Rattle.worker.specs.Worker.{stays, asks, keeping, hearing, looking, waits, fixed, settled', saying, forLog, yeses, isNothing, readLedger, startCall, startBy, start, idleBy, idle, settle, fillLog, putting, onLogBy, onPutBy, write, nextLog, onLedgerBy, onLedger, onPage, tookBy, gatherBy, gathers, onShown, onFilled, refuses, accepts, judges, acts, putsOf, isRest, worker, lessOne, Job, Batch, none, some, Phase, rest, log, put, ledger, page', written, kept, look, answer', gather, Keep, Mind, Told, Asks, none', show, fill, Step, keepIf, entries, isNoPage}
 use Rattle.worker.proofs.Laws.{Right, Laws}
 use Rattle.shelf.proofs.Places.{all-cons, all-none, all-append, at-case, at-hands, not-here, at-self, at-one, at-other, at-twice}
 use Rattle.shelf.proofs.Callers.{by, caller, caller-used, caller-stays, caller-new}
@@ -787,8 +787,8 @@ module _ (o : Ops) (p : Plan) (logs : ℕ) (L : Laws o p logs) where
     ledger-ok m b x old = ledger-by (looking m (o .raise (x .bytes) (m .floor)) (m .place) (m .left)) (record { keep = b .keep; floor = L .floor-raise w (x .bytes) (m .floor) (old .was) (b .floor); mines = b .mines }) x old (o .due (x .bytes)) refl
 
     page-ok' : (m : Mind) → Base (m .keep) (m .floor) → (e : ℕ) (l : List ℕ) (t : ℕ) (x : Box) → OldAt w (co .f) 0 e l → o .due l ≡ withPage t → (1 ≤ x .edition → L .Must w t (x .bytes)) → D (onPage o logs m e l x)
-    page-ok' m b e l t x old d must = cond-both (eqb (x .edition) 0) (readLedger o logs m) (write o logs m e (o .pages l (x .bytes)) (o .after l (x .bytes))) D
-        (λ z. read-ok m b) (λ z. write-ok m b e (o .pages l (x .bytes)) (o .after l (x .bytes)) (doing-all e l (x .bytes) old (subst (λ y. Right (L .Must w) y (x .bytes)) (sym d) (must (let q = eqb-false (x .edition) 0 z in omega arith)))))
+    page-ok' m b e l t x old d must = cond-both (isNoPage o logs l x) (readLedger o logs m) (write o logs m e (o .pages l (x .bytes)) (o .after l (x .bytes))) D
+        (λ z. read-ok m b) (λ z. write-ok m b e (o .pages l (x .bytes)) (o .after l (x .bytes)) (doing-all e l (x .bytes) old (subst (λ y. Right (L .Must w) y (x .bytes)) (sym d) (must (let q = eqb-false (x .edition) 0 (or-parts (eqb (x .edition) 0) (not (o .differs l (o .after l (x .bytes)))) z .0) in omega arith)))))
 
     took-by : (m : Mind) → Base (m .keep) (m .floor) → (e : ℕ) (y : List ℕ) (ch : Bool) (l : ℕ) → l < logs → Taking w (co .f) e y → o .due y ≡ nothing → (x : List ℕ) → L .Was w (logBox l) x → (g : Gives) → o .take y l x ≡ g → D (tookBy o logs m e y ch l g)
     took-by m b e y ch l lt t d x was lacks g = read-ok m b

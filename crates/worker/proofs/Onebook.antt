@@ -13,7 +13,7 @@ use Rattle.streams.specs.Calls.{Call, Put, Out', Drop, Reply, State, entryOk}
 use Rattle.streams.specs.Hands.{Box, In, From, Shown, Filled, Ask, Beat, wantsFill, shows, says, away, here, Seen, called, isUsed, isIn, at, Scene, Open, Ready, Book, sent, tells, Goes, first, turns, asked, showsBox, fills, doesntFill, goes, comes}
 use Rattle.book.specs.Ledger.{logBox}
 use Rattle.book.specs.Interface.{Gives, lacks, gives, Calls, nothing, alone, withPage, Next, page, reply, Filling, Ops}
-use Rattle.worker.specs.Worker.{Job, Batch, none, some, Phase, rest, log, put, ledger, page', written, kept, look, answer', gather, Keep, Mind, Told, Asks, none', show, fill, Step, keepIf, entries, stays, asks, keeping, hearing, looking, waits, fixed, settled', forLog, isNothing, readLedger, startCall, startBy, start, idleBy, idle, settle, fillLog, putting, onLogBy, onPutBy, write, nextLog, onLedgerBy, tookBy, gatherBy, gathers, onShown, onFilled, refuses, accepts, judges, acts, putsOf, isRest, telling, asking', turnOf, worker, lessOne}
+use Rattle.worker.specs.Worker.{Job, Batch, none, some, Phase, rest, log, put, ledger, page', written, kept, look, answer', gather, Keep, Mind, Told, Asks, none', show, fill, Step, keepIf, entries, stays, asks, keeping, hearing, looking, waits, fixed, settled', forLog, isNothing, readLedger, startCall, startBy, start, idleBy, idle, settle, fillLog, putting, onLogBy, onPutBy, write, nextLog, onLedgerBy, tookBy, gatherBy, gathers, onShown, onFilled, refuses, accepts, judges, acts, putsOf, isRest, telling, asking', turnOf, worker, lessOne, isNoPage}
 use Rattle.worker.proofs.Laws.{Laws}
 use Rattle.shelf.specs.Moments.{Rises}
 use Rattle.shelf.proofs.Places.{not-here, fillable-edition, is-false}
@@ -107,7 +107,7 @@ module _ (o : Ops) (logs : ℕ) where
   up-shown m x (log l) = up-log m l x (m .keep .batch)
   up-shown m x put = up-stays m
   up-shown m x ledger = up-ledger (looking m (o .raise (x .bytes) (m .floor)) (m .place) (m .left)) x (o .due (x .bytes))
-  up-shown m x (page' e l b) = cond-both (eqb (x .edition) 0) (readLedger o logs m) (write o logs m e (o .pages l (x .bytes)) (o .after l (x .bytes))) (Up (m .asked)) (λ t. up-asks m (show 0) ledger) (λ t. up-write m e (o .pages l (x .bytes)) (o .after l (x .bytes)))
+  up-shown m x (page' e l b) = cond-both (isNoPage o logs l x) (readLedger o logs m) (write o logs m e (o .pages l (x .bytes)) (o .after l (x .bytes))) (Up (m .asked)) (λ t. up-asks m (show 0) ledger) (λ t. up-write m e (o .pages l (x .bytes)) (o .after l (x .bytes)))
   up-shown m x (written e t ts l) = up-stays m
   up-shown m x kept = up-stays m
   up-shown m x (look e l c n) = up-took m e l c n (o .take l n (x .bytes))

@@ -7,7 +7,7 @@ use Prim.Native.Nat.{ℕ, zero, suc, _+_, _*_, _≤_, _<_}
 use native.Mathlib.Omega.{arith}
 use lib.Dec.{eqb, leb, T}
 use lib.ListN.{length}
-use Rattle.std.proofs.shelf.Tests.{eqb-true, eq-eqb, le-leb, and-from, or-parts, or-from, not-from-true, both-ways}
+use Rattle.std.proofs.shelf.Tests.{cases-bool, eqb-true, eq-eqb, le-leb, and-from, or-parts, or-from, not-from-true, both-ways}
 use Rattle.streams.specs.Meaning.{Event, Entry, Plan, Stage, Num, Key, Value, Count, word, mark, allInTime, cells, ended, eventsOf, throughAll, out}
 use Rattle.streams.specs.Calls.{firstOf, dropOf, parts, exprOk, every}
 use Rattle.streams.specs.Hands.{Box, at, allBytes}
@@ -243,6 +243,14 @@ not-differs (a ∷ x) (b ∷ y) e = let q = or-parts (not (eqb a b)) (smallDiffe
     same true u v = eqb-true a b u
     same false u v = absurd (both-ways true v refl)
 
+-- a step changes the ledger, since it lowers the work
+after-other : (f : ℕ → Box) (l x : List ℕ) → Now f (smallDue l) x → smallDiffers l (smallAfter l) ≡ true
+after-other f l x now = go (cases-bool (smallDiffers l (smallAfter l)))
+  where
+    go : (smallDiffers l (smallAfter l) ≡ true) ⊎ (smallDiffers l (smallAfter l) ≡ false) → smallDiffers l (smallAfter l) ≡ true
+    go (inl e) = e
+    go (inr e) = let s : smallWork (smallAfter l) ≡ smallWork l = ap smallWork (sym (not-differs l (smallAfter l) e)) in absurd (omega (arith, s, work-less f l x now))
+
 differs-self : (x : List ℕ) → smallDiffers x x ≡ false
 unfolding smallDiffers
 differs-self [] = refl
@@ -268,6 +276,7 @@ small-live p logs lg = record {
   work-led = λ x b f. refl;
   work-page = λ {n} {ls} {f} sm h x now a m e. omega arith;
   work-step = λ {n} {k} {ls} {ms} {f} e sm sk h x now h'. work-less f (f 0 .bytes) x now;
+  step-differs = λ {n} {ls} {f} sm h x now. after-other f (f 0 .bytes) x now;
   took-step = λ {n} {ls} {f} sm h x now l t. tt;
   differs-not = not-differs;
   take-gives = λ {n} {ls} {f} sm h d l ll e. let z : _≡_ {A = ℕ} 0 1 = cc in omega arith;

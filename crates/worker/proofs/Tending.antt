@@ -7,13 +7,13 @@ use Prim.Native.Nat.{ℕ, zero, suc, _+_, _*_, _≤_, _<_}
 use native.Mathlib.Omega.{arith}
 use lib.Dec.{eqb, ltb}
 use lib.ListN.{length}
-use Rattle.std.proofs.shelf.Tests.{eqb-true, eqb-false, eq-eqb, ne-eqb, lt-ltb, ltb-true, and-from, and-right, or-right, not-from-true, not-from-false, cond-true, cond-false, cond-both, cases-bool, both-ways}
+use Rattle.std.proofs.shelf.Tests.{eqb-true, eqb-false, eq-eqb, ne-eqb, lt-ltb, ltb-true, and-from, and-right, or-right, not-from-true, not-from-false, cond-true, cond-false, cond-both, cases-bool, both-ways, or-from}
 use Rattle.streams.specs.Meaning.{Entry, Plan}
 use Rattle.streams.specs.Calls.{Call, Reply}
 use Rattle.streams.specs.Hands.{Box, wantsFill, Seen, at, Scene}
 use Rattle.book.specs.Ledger.{logBox}
 use Rattle.book.specs.Interface.{Gives, lacks, gives, Calls, nothing, alone, withPage, Filling, Ops, Safe, Now}
-use Rattle.worker.specs.Worker.{ledger, page', written, kept, look, Keep, Mind, show, fill, Step, asks, hearing, looking, isNothing, readLedger, idle, write, nextLog, onLedgerBy, tookBy, onFilled, lessOne}
+use Rattle.worker.specs.Worker.{ledger, page', written, kept, look, Keep, Mind, show, fill, Step, asks, hearing, looking, isNothing, readLedger, idle, write, nextLog, onLedgerBy, tookBy, onFilled, lessOne, isNoPage}
 use Rattle.book.specs.Live.{Live}
 use Rattle.shelf.proofs.Places.{at-self, at-other, at-twice}
 use Rattle.shelf.proofs.History.{past}
@@ -316,7 +316,7 @@ module _ (o : Ops) (p : Plan) (logs : ℕ) (P : Safe o p logs) (V : Live o p log
             writes k rec (o .pages (f 0 .bytes) []) m2 f (suc (suc n)) (f 0 .edition) (f 0 .bytes) [] pl refl refl (subst (λ z. Now f z []) (sym e) refl) (λ a m. m) a2 ms (omega (arith, bud, few)) (omega (arith, bud, few, ms))
         by rec (withPage b) e a2 = let few = V .few-pages (f 0 .bytes) (f b .bytes) in let ed = P .laws .spent-filled (sd .1) b (P .laws .due-spent (sd .1) b e) .1 in
             writes k rec (o .pages (f 0 .bytes) (f b .bytes)) m3 f (suc (suc (suc (suc n)))) (f 0 .edition) (f 0 .bytes) (f b .bytes) pl refl refl (subst (λ z. Now f z (f b .bytes)) (sym e) refl) (λ a m. m)
-            (subst (λ z. A z f (suc (suc (suc (suc n))))) (cond-false (eqb (f b .edition) 0) (readLedger o logs m3) (write o logs m3 (f 0 .edition) (o .pages (f 0 .bytes) (f b .bytes)) (o .after (f 0 .bytes) (f b .bytes))) (ne-eqb (f b .edition) 0 (λ z. omega (arith, z, ed))))
+            (subst (λ z. A z f (suc (suc (suc (suc n))))) (cond-false (isNoPage o logs (f 0 .bytes) (f b)) (readLedger o logs m3) (write o logs m3 (f 0 .edition) (o .pages (f 0 .bytes) (f b .bytes)) (o .after (f 0 .bytes) (f b .bytes))) (or-from (eqb (f b .edition) 0) (not (o .differs (f 0 .bytes) (o .after (f 0 .bytes) (f b .bytes)))) (ne-eqb (f b .edition) 0 (λ z. omega (arith, z, ed))) (not-from-true (o .differs (f 0 .bytes) (o .after (f 0 .bytes) (f b .bytes))) (V .step-differs (omega (arith, bud, tb)) (sd .1) (f b .bytes) (subst (λ z. Now f z (f b .bytes)) (sym e) refl)))))
             (see o logs all i c lt es s b refl a2)) ms (omega (arith, bud, few)) (omega (arith, bud, few, ms))
           where
             m3 : Mind

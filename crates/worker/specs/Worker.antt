@@ -223,8 +223,12 @@ module _ (o : Ops) (logs : ℕ) where
   onLedger m x = onLedgerBy (looking m (o .raise (x .bytes) (m .floor)) (m .place) (m .left)) x (o .due (x .bytes))
 
   -- a page that is not filled yet: the ledger in hand is older than it
+  -- a page that was never filled, or by whose bytes nothing is done
+  abbrev pub isNoPage : (led : List ℕ) → Box → Bool
+  isNoPage l x = eqb (x .edition) 0 || not (o .differs l (o .after l (x .bytes)))
+
   abbrev pub onPage : Mind → (edition : ℕ) → (led : List ℕ) → Box → Step
-  onPage m e l x = cond (eqb (x .edition) 0) (readLedger m) (write m e (o .pages l (x .bytes)) (o .after l (x .bytes)))
+  onPage m e l x = cond (isNoPage l x) (readLedger m) (write m e (o .pages l (x .bytes)) (o .after l (x .bytes)))
 
   abbrev pub lessOne : ℕ → ℕ
   lessOne zero = zero
