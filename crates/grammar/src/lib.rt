@@ -6,29 +6,21 @@ pub mod operators;
 pub mod refusals;
 
 // What is read is a plan within the limits.
-pub fn reads_valid() -> u8
+pub fn reads_valid()
     ensures { λ _. ⌜ ReadsValid ⌝ }
-{
-    0
-}
+{}
 
 // What is printed of a plan within the limits fits into a text.
-pub fn print_fits() -> u8
+pub fn print_fits()
     ensures { λ _. ⌜ PrintFits ⌝ }
-{
-    0
-}
+{}
 
 // What is printed of a plan within the limits is read as that plan.
-pub fn print_reads() -> u8
+pub fn print_reads()
     ensures { λ _. ⌜ PrintReads ⌝ }
-{
-    0
-}
+{}
 
 // No text that is read as a plan opens fewer brackets than what is printed of that plan.
-pub fn fewest_brackets() -> u8
+pub fn fewest_brackets()
     ensures { λ _. ⌜ FewestBrackets ⌝ }
-{
-    0
-}
+{}

@@ -4,57 +4,41 @@
 ghost use Rattle.shelf.specs.Moments.{AloneHappens, AnswersBelong, EditionsRise, LateLooks, OneContent, OneRequest, WaitsInMind, WaysGrow};
 
 // In one step a box stays as it is, or its edition rises by one.
-pub fn editions_rise() -> u8
+pub fn editions_rise()
     ensures { λ _. ⌜ EditionsRise ⌝ }
-{
-    0
-}
+{}
 
 // A box has one content for each edition.
-pub fn one_content() -> u8
+pub fn one_content()
     ensures { λ _. ⌜ OneContent ⌝ }
-{
-    0
-}
+{}
 
 // Whatever is under way stays under way.
-pub fn ways_grow() -> u8
+pub fn ways_grow()
     ensures { λ _. ⌜ WaysGrow ⌝ }
-{
-    0
-}
+{}
 
 // An answer under a number is about the box that was asked for under it, at a moment after the request.
-pub fn answers_belong() -> u8
+pub fn answers_belong()
     ensures { λ _. ⌜ AnswersBelong ⌝ }
-{
-    0
-}
+{}
 
 // Numbers that rise in each turn tell requests apart.
-pub fn one_request() -> u8
+pub fn one_request()
     ensures { λ _. ⌜ OneRequest ⌝ }
-{
-    0
-}
+{}
 
 // What waits at a hand is in its mind.
-pub fn waits_in_mind() -> u8
+pub fn waits_in_mind()
     ensures { λ _. ⌜ WaitsInMind ⌝ }
-{
-    0
-}
+{}
 
 // A call that leaves the state as it is may be done at any moment between its call and its answer.
-pub fn late_looks() -> u8
+pub fn late_looks()
     ensures { λ _. ⌜ LateLooks ⌝ }
-{
-    0
-}
+{}
 
 // What a hand does alone with the shelf can happen.
-pub fn alone_happens() -> u8
+pub fn alone_happens()
     ensures { λ _. ⌜ AloneHappens ⌝ }
-{
-    0
-}
+{}

@@ -5,43 +5,31 @@ ghost use Rattle.worker.specs.Small.{SmallBusyAtNine, SmallOneBook, SmallOneIs
 ghost use Rattle.worker.specs.Table.{TurnsTable};
 
 // Whatever is lost, late, doubled or out of order, what customers see is what one book-keeper would tell.
-pub fn one_book() -> u8
+pub fn one_book()
     ensures { λ _. ⌜ SmallOneBook ⌝ }
-{
-    0
-}
+{}
 
 // Only a ninth call is handed back.
-pub fn busy_at_nine() -> u8
+pub fn busy_at_nine()
     ensures { λ _. ⌜ SmallBusyAtNine ⌝ }
-{
-    0
-}
+{}
 
 // Any one worker that is there can answer all that waits at it.
-pub fn one_is_enough() -> u8
+pub fn one_is_enough()
     ensures { λ _. ⌜ SmallOneIsEnough ⌝ }
-{
-    0
-}
+{}
 
 // And within how many steps.
-pub fn how_soon() -> u8
+pub fn how_soon()
     ensures { λ _. ⌜ SmallWithin ⌝ }
-{
-    0
-}
+{}
 
 // All of it, and that all comes out.
-pub fn whole() -> u8
+pub fn whole()
     ensures { λ _. ⌜ SmallWhole ⌝ }
-{
-    0
-}
+{}
 
 // The worker's turns are those of a table that was worked out apart from it.
-pub fn turns_run() -> u8
+pub fn turns_run()
     ensures { λ _. ⌜ TurnsTable ⌝ }
-{
-    0
-}
+{}
