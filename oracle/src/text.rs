@@ -263,28 +263,25 @@ impl Tokens {
         Ok(e)
     }
 
-    fn product(&mut self, open: usize) -> Read<Expr> {
-        let mut left = self.factor(open)?;
+    // Operands with signs between them, from left to right.
+    fn chain(&mut self, open: usize, signs: &str, operand: fn(&mut Self, usize) -> Read<Expr>) -> Read<Expr> {
+        let mut left = operand(self, open)?;
         loop {
             let at = self.at();
-            let Some(sign) = self.sign("*/%") else {
+            let Some(sign) = self.sign(signs) else {
                 return Ok(left);
             };
-            let right = self.factor(open)?;
+            let right = operand(self, open)?;
             left = counted(at, Expr::Pair(Box::new(left), Sign(sign), Box::new(right)))?;
         }
     }
 
+    fn product(&mut self, open: usize) -> Read<Expr> {
+        self.chain(open, "*/%", Self::factor)
+    }
+
     fn sum(&mut self, open: usize) -> Read<Expr> {
-        let mut left = self.product(open)?;
-        loop {
-            let at = self.at();
-            let Some(sign) = self.sign("+-") else {
-                return Ok(left);
-            };
-            let right = self.product(open)?;
-            left = counted(at, Expr::Pair(Box::new(left), Sign(sign), Box::new(right)))?;
-        }
+        self.chain(open, "+-", Self::product)
     }
 
     fn expr(&mut self, open: usize) -> Read<Expr> {
