@@ -1,5 +1,7 @@
 // Numbers as bytes, high byte first: read from the front of a slice, which hands on what stands behind them, and
 // written into a lent one.
+#![tactic(auto)]
+
 ghost use Rattle.std.specs.Prelude.{◌≡◌, ◌+◌, ◌<◌, ◌≤◌, ◌++◌, length, take, drop, MatchOption};
 ghost use Rattle.bytes.specs.Form.{two, four, eight};
 

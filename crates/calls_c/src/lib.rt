@@ -1,5 +1,7 @@
 // Calls, answers and lines for programs in other languages: numbers, slices of bytes and structs of numbers cross.
 // Built as a static library for tests and measurements. specs/Shown says what each struct shows.
+#![tactic(auto)]
+
 ghost use Rattle.std.specs.Prelude.{◌≡◌, ℕ, Ok, Option as Maybe, Result as Either};
 ghost use Rattle.std.specs.Option.{unwrap_or};
 ghost use Rattle.calls.specs.declared.kinds.Call.{Call as C};

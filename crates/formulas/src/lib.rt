@@ -1,4 +1,6 @@
 // Reading expressions at a place in the bytes of a text, as the crate `grammar` defines it: readers of expressions,
 // chains, operands and brackets that call each other, with a number that falls for the depth of brackets.
+#![tactic(auto)]
+
 pub mod parts;
 pub mod reader;

@@ -1,4 +1,6 @@
 // A book-keeper in one place: logs in memory, and one call done after the other. `rehearse` compares all else with it.
+#![tactic(auto)]
+
 ghost use Rattle.std.specs.Prelude.{◌≤◌, vec_len};
 
 use plans::entries::Entry;

@@ -1,6 +1,8 @@
 // Index pages: too many segments of one level become a page and one segment of the next level, and come back when that
 // segment is the first.
 // What is called here requires room of its caller, the code that keeps the slices: it has proved it.
+#![tactic(auto)]
+
 ghost use Rattle.std.specs.Prelude.{◌≡◌, ℕ, suc, ◌+◌, ◌*◌, ◌<◌, ◌≤◌, List, length};
 ghost use Rattle.streams.specs.Meaning.{top};
 ghost use Rattle.book.specs.Queue.{IndexPage, After, unpack as unpacked};

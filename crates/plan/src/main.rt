@@ -1,5 +1,7 @@
 // The program `plan`: reads a plan from the file that its argument names, or else from standard input, and prints it as
 // docs/PLANS.md says; or says on standard error where and why it is none, and ends with status 1.
+#![tactic(auto)]
+
 ghost use Rattle.std.specs.Prelude.{◌≡◌, ◌-◌, ◌<◌, ◌≤◌, length, slice_index};
 ghost use Rattle.plan.specs.Lines.{NoLineEnd};
 

@@ -1,5 +1,7 @@
 // Plans as text, as docs/PLANS.md has it: one stage after the other, with the fewest brackets that keep the reading, and
 // without what equals its default. What is written is `printed` of the crate `grammar`.
+#![tactic(auto)]
+
 ghost use Rattle.std.specs.Prelude.{◌≡◌, map, IfOk, decimal};
 ghost use Rattle.grammar.specs.Printing.{bond as bondOf, within as withinOf, pair as pair_of, shown as shownOf, is_number_one, is_just_key, is_value, said as said_of, named as named_of, text_of_stage, text_of_stages, printed};
 ghost use Rattle.plans.specs.Model.{expr_of, as_sum, stage_of, plan_of};

@@ -2,6 +2,8 @@
 // and the next page's number are in a header that is handed on by value.
 // Every definition that a contract cites is that of the crate `book`, by way of specs/Model. What is called here requires
 // room and sorted rows of its caller, the code that keeps the slices: it has proved both.
+#![tactic(auto)]
+
 ghost use Rattle.std.specs.Prelude.{◌≡◌, ℕ, ◌+◌, ◌*◌, ◌≤◌, length};
 ghost use Rattle.book.specs.Queue.{goes_up, place as placed};
 ghost use Rattle.rows.specs.Model.{key_of, row_of, aggregates_of};

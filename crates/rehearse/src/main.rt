@@ -1,5 +1,7 @@
 // The program `rehearse`: plays a script (docs/REHEARSE.md) from the file that its argument names, or else from standard
 // input, and prints what came out. A line that is wrong is named with its number, and the rest goes on.
+#![tactic(auto)]
+
 ghost use Rattle.std.specs.Prelude.{◌≤◌, length};
 
 use calls::kinds::{Call, Refusal};

@@ -1,6 +1,8 @@
 // What holds of a shelf and of what is under way to and from it, whatever the hands are and do. Each function's contract is a
 // theorem about the definitions in specs/Moments, and its body does nothing: a theorem that had no proof would be refused here.
 // The lemmas in proofs/ are for hands with minds of any type; contracts state them for minds that are lists of numbers.
+#![tactic(auto)]
+
 ghost use Rattle.shelf.specs.Moments.{AloneHappens, AnswersBelong, EditionsRise, LateLooks, OneContent, OneRequest, WaitsInMind, WaysGrow};
 
 // In one step a box stays as it is, or its edition rises by one.

@@ -1,5 +1,7 @@
 // The worker over the real book: what is promised of the system as it is. Each function's contract is a theorem about the
 // definitions of `streams`, of every plan within its limits and 1 to 256 logs; its body does nothing.
+#![tactic(auto)]
+
 ghost use Rattle.system.specs.Real.{RealBusyAtNine, RealComesOut, RealOneBook, RealOneIsEnough, RealWhole, RealWithin};
 ghost use Rattle.system.specs.Strange.{StrangeBytes};
 

@@ -1,5 +1,7 @@
 // Reading words, numbers and signs at a place in the bytes of a text, as the crate `grammar` defines it.
 // A place is at most the length of the text.
+#![tactic(auto)]
+
 ghost use Rattle.std.specs.Prelude.{◌≡◌, ◌+◌, ◌<◌, ◌≤◌, true, length, drop};
 ghost use Rattle.grammar.specs.Reading.{blank, letter as letterByte, is as isHere, starts_digit, starts_letter, is_the_word, digits as digitsAt, limited as limitedAt};
 ghost use Rattle.tokens.specs.Says.{Skips, SaysDigits, SaysNumber};

@@ -1,6 +1,8 @@
 // The worker, and what is promised of it. Each function's contract is a theorem about the definitions in specs/, and its body does
 // nothing: a theorem that had no proof would be refused here. The theorems hold over any book that keeps the interface
 // (proofs/Together); statements about all books are of Type 1, so that contracts cite them at a book: here a small one.
+#![tactic(auto)]
+
 ghost use Rattle.worker.specs.Small.{SmallBusyAtNine, SmallOneBook, SmallOneIsEnough, SmallWhole, SmallWithin};
 ghost use Rattle.worker.specs.Table.{TurnsTable};
 
