@@ -1,7 +1,7 @@
 -- No two calls have the same bytes, and bytes of another length than a kind has are no call. Assumes nothing.
 use Rattle.std.proofs.Common.{◌≡◌, ℕ, true, false, List, [], ◌∷◌, length, get_or, drop, Ok, Err, Result, sym, refl, ap, ◌∙◌, subst, arith}
 use Rattle.streams.specs.Calls.{core}
-use Rattle.bytes.proofs.Bytes.{two_same, eight_same}
+use Rattle.octets.proofs.Bytes.{two_same, eight_same}
 use Rattle.plans.specs.declared.entries.Entry.TheVariants.{Happened, Still}
 use Rattle.calls.specs.declared.kinds.Refusal.{Refusal}
 use Rattle.calls.specs.declared.kinds.Refusal.TheVariants.{Invalid, NoLog, Dropped, NotOut, Busy, NotBuilt}

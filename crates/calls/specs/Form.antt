@@ -2,7 +2,7 @@
 -- Assumes nothing.
 use Rattle.std.specs.Prelude.{◌≡◌, ℕ, ◌^◌, ◌<◌, ◌≤◌, true, false, List, ◌∷◌, ◌++◌, length, take, drop, Some, None, Ok, Err, Option, Result, ◌≢◌}
 use Rattle.streams.specs.Calls as spec
-use Rattle.bytes.specs.Form.{two, eight}
+use Rattle.octets.specs.Form.{two, eight}
 use Rattle.plans.specs.Model.{entry_of}
 use Rattle.plans.specs.declared.entries.Entry.TheVariants.{Happened, Still}
 use Rattle.calls.specs.declared.kinds.Refusal.{Refusal}

@@ -5,7 +5,7 @@ ghost use Rattle.calls.specs.declared.kinds.Call.TheVariants.{Put, Out, Drop};
 ghost use Rattle.calls.specs.Form.{Reads, ReadAgain, Encodes};
 
 use crate::kinds::{Call, Refusal};
-use bytes::{eight_from, two_from, write_eight, write_two};
+use octets::{eight_from, two_from, write_eight, write_two};
 use plans::entries::{Entry, Event};
 use plans::numbers::{Key, LogNumber, Place, Time, Value};
 

@@ -3,9 +3,9 @@ use Rattle.std.proofs.Common.{◌≡◌, ℕ, ◌+◌, ◌-◌, ◌<◌, ◌≤�
 use lib.Seq.{drop-append-le, take-append-le, take-append_seam, drop-append_seam}
 use Rattle.std.proofs.lemmas.List.{get_or_append_left}
 use Rattle.std.proofs.lemmas.Bool.{lt-ltb, le-ltb, cases_lt}
-use Rattle.bytes.specs.Form.{four, eight, four_of, word_of}
-use Rattle.bytes.proofs.Bytes.{four_value, eight_value}
-use Rattle.bytes.proofs.Front.{drop_more}
+use Rattle.octets.specs.Form.{four, eight, four_of, word_of}
+use Rattle.octets.proofs.Bytes.{four_value, eight_value}
+use Rattle.octets.proofs.Front.{drop_more}
 use Rattle.frames.specs.declared.kinds.Traffic.{Traffic}
 use Rattle.frames.specs.declared.kinds.Fault.TheVariants.{TooLong, TooShort}
 use Rattle.frames.specs.Lines.{line, least, Seen, Whole, NotYet, Refused, seen, LinesAgain}

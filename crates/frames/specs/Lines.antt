@@ -1,7 +1,7 @@
 -- Lines: what stands at the front of bytes, and how a stream of them is read piece by piece.
 -- Assumes nothing.
 use Rattle.std.specs.Prelude.{◌≡◌, ℕ, zero, suc, ◌+◌, ◌-◌, ◌<◌, ◌≤◌, cond, ◌⊎◌, List, [], ◌∷◌, ◌++◌, length, take, drop, Some, None, Option, ◌==◌, nat_lt, slice_index}
-use Rattle.bytes.specs.Form.{four, eight, four_of, word_of}
+use Rattle.octets.specs.Form.{four, eight, four_of, word_of}
 use Rattle.streams.specs.Calls.{Reply}
 use Rattle.calls.specs.declared.kinds.Call.{Call}
 use Rattle.calls.specs.Form.{encoded}

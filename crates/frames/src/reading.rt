@@ -3,7 +3,7 @@ ghost use Rattle.std.specs.Prelude.{◌≡◌};
 ghost use Rattle.frames.specs.Lines.{least as fewest, seen, seen_of, AnyCutting};
 
 use crate::kinds::{Fault, Frame, Traffic};
-use bytes::{eight_from, four_from};
+use octets::{eight_from, four_from};
 use plans::numbers::CallNumber;
 
 // A line's length is this at most: 1 MiB.

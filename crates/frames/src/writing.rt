@@ -1,7 +1,7 @@
 // Writing lines into a lent slice.
 ghost use Rattle.frames.specs.Lines.{Written, CallsAgain, RepliesAgain};
 
-use bytes::{write_bytes, write_eight, write_four};
+use octets::{write_bytes, write_eight, write_four};
 use plans::numbers::CallNumber;
 
 // A line's length is this at most, with the number's 8 bytes: 1 MiB.

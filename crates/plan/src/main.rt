@@ -9,6 +9,7 @@ use grammar::refusals::Refusal;
 use print::print;
 use std::alloc::{AllocError, AllocFailed};
 use std::io::{Read, Write};
+use std::process::ExitCode;
 use std::{env, fs, io};
 use text::places::locate;
 use text::reader::read;
@@ -40,15 +41,22 @@ impl<T: Drop> From<AllocFailed<T>> for Stop {
     }
 }
 
-fn main(rt: HostRuntime) -> Result<(), Stop> {
-    let ended = run(&rt);
-    match ended {
-        Err(Stop::Memory) => eprintln!(rt; "plan: no memory")?,
-        Err(Stop::Io(_)) => eprintln!(rt; "plan: reading or writing failed")?,
-        Err(Stop::Said) => {}
-        Ok(()) => return Ok(()),
+fn main(rt: HostRuntime) -> ExitCode {
+    let Err(stop) = run(&rt) else {
+        return ExitCode::SUCCESS;
+    };
+    // Where standard error is closed too, the status alone says it.
+    let _told = tell(&rt, &stop);
+    ExitCode::FAILURE
+}
+
+// What was not said yet of why the program ends.
+fn tell(rt: &HostRuntime, stop: &Stop) -> io::Result<()> {
+    match stop {
+        Stop::Memory => eprintln!(rt; "plan: no memory"),
+        Stop::Io(_) => eprintln!(rt; "plan: reading or writing failed"),
+        Stop::Said => Ok(()),
     }
-    Err(Stop::Said)
 }
 
 fn run(rt: &HostRuntime) -> Result<(), Stop> {

@@ -15,6 +15,7 @@ use scripts::reading::parse;
 use std::alloc::{AllocError, AllocFailed, Global};
 use std::io::Read;
 use std::str::from_utf8;
+use std::process::ExitCode;
 use std::{env, fs, io};
 use text::places::locate;
 use text::reader::read;
@@ -69,15 +70,22 @@ struct Play {
     called: bool,
 }
 
-fn main(rt: HostRuntime) -> Result<(), Stop> {
-    let ended = run(&rt);
-    match ended {
-        Err(Stop::Memory) => eprintln!(rt; "rehearse: no memory")?,
-        Err(Stop::Io(_)) => eprintln!(rt; "rehearse: reading or writing failed")?,
-        Err(Stop::Said) => {}
-        Ok(()) => return Ok(()),
+fn main(rt: HostRuntime) -> ExitCode {
+    let Err(stop) = run(&rt) else {
+        return ExitCode::SUCCESS;
+    };
+    // Where standard error is closed too, the status alone says it.
+    let _told = tell(&rt, &stop);
+    ExitCode::FAILURE
+}
+
+// What was not said yet of why the program ends.
+fn tell(rt: &HostRuntime, stop: &Stop) -> io::Result<()> {
+    match stop {
+        Stop::Memory => eprintln!(rt; "rehearse: no memory"),
+        Stop::Io(_) => eprintln!(rt; "rehearse: reading or writing failed"),
+        Stop::Said => Ok(()),
     }
-    Err(Stop::Said)
 }
 
 fn run(rt: &HostRuntime) -> Result<(), Stop> {

@@ -2,9 +2,9 @@
 use Rattle.std.proofs.Common.{◌≡◌, ℕ, zero, suc, ◌+◌, ◌-◌, ◌*◌, ◌<◌, ◌≤◌, List, [], ◌∷◌, ◌++◌, length, get_or, take, drop, sym, refl, ap, ◌∙◌, arith, length-drop, get_or-drop, take_all}
 use lib.Seq.{take-append-add}
 use Rattle.streams.specs.Meaning.{Event}
-use Rattle.bytes.specs.Form.{eight, word_of}
-use Rattle.bytes.proofs.Bytes.{eight_of, eight_value, eight_same}
-use Rattle.bytes.proofs.Front.{drop_more}
+use Rattle.octets.specs.Form.{eight, word_of}
+use Rattle.octets.proofs.Bytes.{eight_of, eight_value, eight_same}
+use Rattle.octets.proofs.Front.{drop_more}
 use Rattle.replies.specs.Form.{EachFit}
 use Rattle.replies.specs.Listing.{listing, first_of, listed}
 

@@ -1,9 +1,9 @@
 -- No two answers have the same bytes, and which bytes are no answer's. Assumes nothing.
 use Rattle.std.proofs.Common.{◌≡◌, ℕ, suc, ◌+◌, ◌*◌, ◌/◌, ◌<◌, ◌≤◌, List, [], ◌∷◌, ◌++◌, length, get_or, take, drop, set, None, Option, sym, refl, ap, ◌∙◌, subst, arith, length-take-le, take_all}
 use Rattle.streams.specs.Calls.{Reply, No, Yes, Outs, Full}
-use Rattle.bytes.specs.Form.{two}
-use Rattle.bytes.proofs.Bytes.{two_same}
-use Rattle.bytes.proofs.Front.{first_one, past_one, later}
+use Rattle.octets.specs.Form.{two}
+use Rattle.octets.proofs.Bytes.{two_same}
+use Rattle.octets.proofs.Front.{first_one, past_one, later}
 use Rattle.replies.specs.declared.kinds.Reply as code
 use Rattle.replies.specs.Listing.{listing, events_in}
 use Rattle.replies.specs.Form.{form, Fit, Reads, Written}

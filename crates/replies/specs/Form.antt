@@ -3,7 +3,7 @@
 use Rattle.std.specs.Prelude.{◌≡◌, ℕ, ◌^◌, ◌<◌, ◌≤◌, List, [], ◌∷◌, ◌++◌, length, take, drop, Some, None, Option, ◌≢◌}
 use Rattle.streams.specs.Meaning.{Event}
 use Rattle.streams.specs.Calls as spec
-use Rattle.bytes.specs.Form.{two}
+use Rattle.octets.specs.Form.{two}
 use Rattle.calls.specs.Form.{number_of}
 use Rattle.calls.specs.declared.kinds.Refusal.{Refusal}
 use Rattle.replies.specs.Listing.{listing, events_in}

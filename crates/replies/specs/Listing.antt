@@ -1,7 +1,7 @@
 -- Events one behind the other as bytes: 24 for each, its time, key and value, high byte first. Assumes nothing.
 use Rattle.std.specs.Prelude.{◌≡◌, ℕ, zero, suc, ◌/◌, ◌<◌, ◌≤◌, List, [], ◌∷◌, ◌++◌, length, drop, Some, None, Option, slice_index_or}
 use Rattle.streams.specs.Meaning as spec
-use Rattle.bytes.specs.Form.{eight, word_of}
+use Rattle.octets.specs.Form.{eight, word_of}
 use Rattle.plans.specs.Model.{as_event}
 use Rattle.plans.specs.declared.entries.Event.{Event}
 

@@ -8,7 +8,7 @@ ghost use Rattle.replies.specs.Form.{reply_of, Reads, Encodes};
 
 use crate::events::Events;
 use crate::kinds::Reply;
-use bytes::{two_from, write_bytes, write_two};
+use octets::{two_from, write_bytes, write_two};
 use calls::kinds::Refusal;
 use calls::refusals::number;
 

@@ -1,9 +1,9 @@
 // Events as they stand in an answer's bytes: 24 for each, its time, key and value, high byte first.
 ghost use Rattle.std.specs.Prelude.{◌≡◌, ◌+◌, ◌≤◌, length, drop};
-ghost use Rattle.bytes.specs.Form.{word_of};
+ghost use Rattle.octets.specs.Form.{word_of};
 ghost use Rattle.replies.specs.Listing.{events_in, Got};
 
-use bytes::eight_from;
+use octets::eight_from;
 use plans::entries::Event;
 use plans::numbers::{Key, Time, Value};
 

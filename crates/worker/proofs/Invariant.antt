@@ -1071,7 +1071,7 @@ module _ (o : Ops) (p : Plan) (logs : ℕ) (L : Laws o p logs) where
     gather_waits : (k f n : ℕ) (x : List ℕ) (got : List Event) → Memᴰ (record { number = k; call = Out' f n }) m.keep.waiting → L.Was v.w 0 x → Gathered o (L.Must v.w) f n x got → (y : Next) → o.answer f n x got ≡ y →
         Turned v i c v.co.seen (gather_by o logs (hearing m true) k f n x got y)
     gather_waits k f n x got mem was ga (page b) g = quiet (gather_by o logs (hearing m true) k f n x got (page b)) (asks_ok v.co.seen v.w qco v.ways i c m.keep sm (hearing m true) q_base (show b) (gather k f n x got b) tt (Memᴰ.head refl, mem, was, ga, g))
-    gather_waits k f n x got mem was ga (reply ev) g = let r = L.Answer-Ok f n x got ev h.sound was ga g in told_out k f n ev mem r.0 r.1 r.2
+    gather_waits k f n x got mem was ga (reply ev) g = let r = L.answer_ok f n x got ev h.sound was ga g in told_out k f n ev mem r.0 r.1 r.2
 
     -- what the store says
     seen_at : (x : Box) (b : ℕ) → Memᴰ (shows i c m.asked x) v.ways → Memᴰ (wants_box i c m.asked b) v.ways → (x.edition ≤ (v.co.f b).edition) × (v.co.past b x.edition ≡ x.bytes)

@@ -158,7 +158,7 @@ module _ (o : Ops) (p : Plan) (logs : ℕ) (P : Safe o p logs) (V : Live o p log
 
         st : (v : ℕ) × (v < w) × V.Work v (at 0 (record { edition = e + 1; bytes = o.after led x }) f)
         st = subst (λ z. (v : ℕ) × (v < w) × V.Work v (at 0 (record { edition = e + 1; bytes = o.after z x }) f)) is
-            (V.Work-step sm sd.1 x now' (λ t m. let q = at_least t (todo t (subst (λ z. Memᴰ t (o.pages z x)) is m)) in (q, held_of a sm x now' t m q)) (e + 1) w wk)
+            (V.work_step sm sd.1 x now' (λ t m. let q = at_least t (todo t (subst (λ z. Memᴰ t (o.pages z x)) is m)) in (q, held_of a sm x now' t m q)) (e + 1) w wk)
 
         step_took : (l : ℕ) → V.Took led l (f (log_box l)).bytes → V.Took (o.after led x) l (f (log_box l)).bytes
         step_took l z = subst (λ u. V.Took (o.after u x) l (f (log_box l)).bytes) is (V.took_step sm sd.1 x now' l (subst (λ u. V.Took u l (f (log_box l)).bytes) (sym is) z))
@@ -266,7 +266,7 @@ module _ (o : Ops) (p : Plan) (logs : ℕ) (P : Safe o p logs) (V : Live o p log
       twice x = at_twice 0 (record { edition = (f 0).edition + 1; bytes = x }) (record { edition = (f 0).edition + 1; bytes = y }) f
 
       look_gives : o.take y l (f (log_box l)).bytes ≡ lacks → ⊥
-      look_gives e = V.take_Gives sm sd d1 l ll (take1 lacks e)
+      look_gives e = V.take_gives sm sd d1 l ll (take1 lacks e)
 
       look_took : (x : List ℕ) → o.take y l (f (log_box l)).bytes ≡ gives x → Took1 f n l y x
       look_took x e = record {

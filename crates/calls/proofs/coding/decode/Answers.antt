@@ -1,6 +1,6 @@
 use Rattle.std.proofs.Common.{[], Err, rules}
 use Rattle.calls.specs.declared.kinds.Refusal.TheVariants.{Invalid, NotBuilt}
-use Rattle.bytes.proofs.Bytes.{front, none}
+use Rattle.octets.proofs.Bytes.{front, none}
 use Rattle.calls.proofs.Same.{with_kind, no_bytes, no_kind, unbuilt}
 use Rattle.calls.proofs.coding.decode.Goals as goal
 

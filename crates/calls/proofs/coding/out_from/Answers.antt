@@ -1,7 +1,7 @@
 use Rattle.std.proofs.Common.{◌≡◌, ◌≤◌, [], ◌∷◌, ◌++◌, length, refl, ap, ◌∙◌, arith, rules}
 use Rattle.streams.specs.Calls.{core}
-use Rattle.bytes.specs.Form.{two, eight}
-use Rattle.bytes.proofs.Bytes.{none}
+use Rattle.octets.specs.Form.{two, eight}
+use Rattle.octets.proofs.Bytes.{none}
 use Rattle.calls.proofs.Same.{no_out}
 use Rattle.calls.proofs.coding.out_from.Goals as goal
 

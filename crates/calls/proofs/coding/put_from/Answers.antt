@@ -1,7 +1,7 @@
 use Rattle.std.proofs.Common.{◌≡◌, ◌≤◌, [], ◌∷◌, ◌++◌, length, get_or, refl, ap, ◌∙◌, arith, rules}
 use Rattle.streams.specs.Calls.{core}
-use Rattle.bytes.specs.Form.{eight}
-use Rattle.bytes.proofs.Bytes.{front, behind, none}
+use Rattle.octets.specs.Form.{eight}
+use Rattle.octets.proofs.Bytes.{front, behind, none}
 use Rattle.calls.proofs.Same.{no_put}
 use Rattle.calls.proofs.coding.put_from.Goals as goal
 

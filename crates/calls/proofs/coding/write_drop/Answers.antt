@@ -1,6 +1,6 @@
 use Rattle.std.proofs.Common.{◌++◌, ap, ◌∙◌, arith, rules}
-use Rattle.bytes.specs.Form.{eight}
-use Rattle.bytes.proofs.Front.{first_one, past_one}
+use Rattle.octets.specs.Form.{eight}
+use Rattle.octets.proofs.Front.{first_one, past_one}
 use Rattle.calls.proofs.coding.write_drop.Goals as goal
 
 pub returns : goal.returns

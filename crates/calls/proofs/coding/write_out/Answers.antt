@@ -1,6 +1,6 @@
 use Rattle.std.proofs.Common.{◌++◌, set, ap, ◌∙◌, arith, rules}
-use Rattle.bytes.specs.Form.{two, eight}
-use Rattle.bytes.proofs.Front.{first_one, past_one, later}
+use Rattle.octets.specs.Form.{two, eight}
+use Rattle.octets.proofs.Front.{first_one, past_one, later}
 use Rattle.calls.proofs.coding.write_out.Goals as goal
 
 pub returns : goal.returns

@@ -1,6 +1,6 @@
 use Rattle.std.proofs.Common.{◌++◌, set, ap, ◌∙◌, arith, rules}
-use Rattle.bytes.specs.Form.{eight}
-use Rattle.bytes.proofs.Front.{first_two, past_two, later}
+use Rattle.octets.specs.Form.{eight}
+use Rattle.octets.proofs.Front.{first_two, past_two, later}
 use Rattle.calls.proofs.coding.write_put.Goals as goal
 
 pub returns : goal.returns

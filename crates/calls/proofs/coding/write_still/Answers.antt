@@ -1,6 +1,6 @@
 use Rattle.std.proofs.Common.{◌++◌, ap, ◌∙◌, arith, rules}
-use Rattle.bytes.specs.Form.{eight}
-use Rattle.bytes.proofs.Front.{first_two, past_two}
+use Rattle.octets.specs.Form.{eight}
+use Rattle.octets.proofs.Front.{first_two, past_two}
 use Rattle.calls.proofs.coding.write_still.Goals as goal
 
 pub returns : goal.returns

@@ -1,5 +1,5 @@
 use Rattle.std.proofs.Common.{◌<◌, ◌≤◌, ◌++◌, length, get_or, sym, ap, ◌∙◌, arith, rules}
-use Rattle.bytes.specs.Form.{four}
+use Rattle.octets.specs.Form.{four}
 use Rattle.frames.specs.Lines.{Whole, least}
 use Rattle.frames.proofs.Fronts.{at_short, at_long, at_small, at_head, at_kind, at_wait, number_of, whole_seen}
 use Rattle.frames.proofs.reading.read.Goals as goal

@@ -1,6 +1,6 @@
 use Rattle.std.proofs.Common.{◌≡◌, ◌+◌, ◌++◌, length, take, drop, sym, ap, ◌∙◌, arith, rules}
-use Rattle.bytes.specs.Form.{eight}
-use Rattle.bytes.proofs.Front.{later}
+use Rattle.octets.specs.Form.{eight}
+use Rattle.octets.proofs.Front.{later}
 use Rattle.frames.proofs.writing.write.Goals as goal
 
 pub returns : goal.returns

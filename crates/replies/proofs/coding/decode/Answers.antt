@@ -1,6 +1,6 @@
 use Rattle.std.proofs.Common.{rules}
 use Rattle.streams.specs.Calls.{Yes, Full}
-use Rattle.bytes.proofs.Bytes.{front}
+use Rattle.octets.proofs.Bytes.{front}
 use Rattle.replies.proofs.Same.{told, with_kind, lone}
 use Rattle.replies.proofs.coding.decode.Goals as goal
 

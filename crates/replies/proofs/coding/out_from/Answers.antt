@@ -1,5 +1,5 @@
 use Rattle.std.proofs.Common.{length, sym, ap, ◌∙◌, arith, rules}
-use Rattle.bytes.proofs.Bytes.{two_same}
+use Rattle.octets.proofs.Bytes.{two_same}
 use Rattle.replies.proofs.Same.{out_told, no_out}
 use Rattle.replies.proofs.coding.out_from.Goals as goal
 

@@ -1,5 +1,5 @@
 use Rattle.std.proofs.Common.{arith, rules}
-use Rattle.bytes.proofs.Front.{first_one, past_one}
+use Rattle.octets.proofs.Front.{first_one, past_one}
 use Rattle.replies.proofs.coding.write_full.Goals as goal
 
 pub returns : goal.returns

@@ -1,5 +1,5 @@
 use Rattle.std.proofs.Common.{◌≡◌, ◌-◌, ◌*◌, ◌/◌, ◌++◌, length, take, set, sym, refl, ap, ◌∙◌, arith, rules}
-use Rattle.bytes.specs.Form.{two}
+use Rattle.octets.specs.Form.{two}
 use Rattle.replies.proofs.Listed.{length_listed}
 use Rattle.replies.proofs.Same.{out_long, wrote_out}
 use Rattle.replies.proofs.coding.write_out.Goals as goal

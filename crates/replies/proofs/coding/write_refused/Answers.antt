@@ -1,5 +1,5 @@
 use Rattle.std.proofs.Common.{[], ◌∷◌, ap, ◌∙◌, arith, rules}
-use Rattle.bytes.proofs.Front.{first_two, past_two}
+use Rattle.octets.proofs.Front.{first_two, past_two}
 use Rattle.replies.proofs.coding.write_refused.Goals as goal
 
 pub returns : goal.returns

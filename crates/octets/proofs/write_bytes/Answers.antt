@@ -1,6 +1,6 @@
 use Rattle.std.proofs.Common.{rules}
 use Rattle.std.proofs.lemmas.Slice.{overwrites}
-use Rattle.bytes.proofs.write_eight.Goals as goal
+use Rattle.octets.proofs.write_bytes.Goals as goal
 
 pub returns : goal.returns
 returns c = record { wrote = search (rules, overwrites); kept = search (rules, overwrites) }

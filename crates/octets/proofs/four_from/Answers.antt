@@ -1,6 +1,6 @@
 use Rattle.std.proofs.Common.{arith, rules}
-use Rattle.bytes.proofs.Bytes.{four_of_bytes}
-use Rattle.bytes.proofs.four_from.Goals as goal
+use Rattle.octets.proofs.Bytes.{four_of_bytes}
+use Rattle.octets.proofs.four_from.Goals as goal
 
 pub returns : goal.returns
 returns c = four_of_bytes c.args.bytes.now _ (λ i. omega (arith, c.type-inv.bytes i)) (search rules) (omega (arith, c.from-be-bytes.ensures))

@@ -1,6 +1,6 @@
 -- Numbers and their bytes, high byte first. Assumes nothing.
 use Rattle.std.proofs.Common.{◌≡◌, ℕ, ◌+◌, ◌-◌, ◌*◌, ◌/◌, ◌%◌, ◌<◌, ◌≤◌, List, [], ◌∷◌, ◌++◌, length, get_or, take, drop, sym, refl, ap, arith, take_all}
-use Rattle.bytes.specs.Form.{two, four, eight}
+use Rattle.octets.specs.Form.{two, four, eight}
 
 -- what two lists are equal by, element by element
 pub same2 : {a b a' b' : ℕ} {l l' : List ℕ} → a ≡ a' → b ≡ b' → l ≡ l' → a ∷ b ∷ l ≡ a' ∷ b' ∷ l'

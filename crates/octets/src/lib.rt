@@ -3,7 +3,7 @@
 #![tactic(auto)]
 
 ghost use Rattle.std.specs.Prelude.{◌≡◌, ◌+◌, ◌<◌, ◌≤◌, ◌++◌, length, take, drop, MatchOption};
-ghost use Rattle.bytes.specs.Form.{two, four, eight};
+ghost use Rattle.octets.specs.Form.{two, four, eight};
 
 // The number in the first two bytes, and what stands behind them.
 pub fn two_from(bytes: &[u8]) -> Option<(u16, &[u8])>

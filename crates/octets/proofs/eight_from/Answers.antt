@@ -1,6 +1,6 @@
 use Rattle.std.proofs.Common.{arith, rules}
-use Rattle.bytes.proofs.Bytes.{eight_of}
-use Rattle.bytes.proofs.eight_from.Goals as goal
+use Rattle.octets.proofs.Bytes.{eight_of}
+use Rattle.octets.proofs.eight_from.Goals as goal
 
 pub returns : goal.returns
 returns c = eight_of c.args.bytes.now _ (λ i. omega (arith, c.type-inv.bytes i)) (search rules) (omega (arith, c.from-be-bytes.ensures))
