@@ -1,13 +1,23 @@
--- What one value more comes to, by the case of the aggregate.
+-- What a first value comes to, and one value more, by the case of the aggregate.
 -- Assumes nothing.
-use Rattle.std.proofs.Common.{◌≡◌, ℕ, ◌+◌, ◌%◌, ◌<◌, ◌≤◌, refl, arith}
+use Rattle.std.proofs.Common.{◌≡◌, ℕ, ◌+◌, ◌%◌, ◌<◌, ◌≤◌, ◌⊎◌, refl, inl, inr, arith}
 use Rattle.std.proofs.lemmas.Bool.Decides.{nat_tests}
-use Rattle.streams.specs.Meaning.{top, joined}
+use Rattle.streams.specs.Meaning.{top, first, joined}
 use Rattle.plans.specs.declared.stages.Aggregate.{Aggregate}
 use Rattle.plans.specs.declared.stages.Aggregate.TheVariants.{Count, Total, Least, Greatest}
 use Rattle.plans.specs.Model.{as_sum}
 
 module _ {h : Aggregate} where
+  pub first_count : (v : ℕ) → h ≡ Count → 1 ≡ first (as_sum h) v
+  unfolding first
+  first_count v is = rw is
+
+  pub first_value : (v : ℕ) → (h ≡ Total) ⊎ ((h ≡ Least) ⊎ (h ≡ Greatest)) → v ≡ first (as_sum h) v
+  unfolding first
+  first_value v (inl is) = rw is
+  first_value v (inr (inl is)) = rw is
+  first_value v (inr (inr is)) = rw is
+
   pub joined_count : (a v : ℕ) → h ≡ Count → (a + 1) % top ≡ joined (as_sum h) a v
   unfolding joined
   joined_count a v is = rw is

@@ -1,6 +1,6 @@
 // The cells of one stage: for each window and key what its values come to so far, by rising ends, then keys.
 ghost use Rattle.std.specs.Prelude.{◌≡◌, ◌&&◌, map, length, nat_lt};
-ghost use Rattle.streams.specs.Meaning.{joined as joinedOf};
+ghost use Rattle.streams.specs.Meaning.{first as first_of, joined as joinedOf};
 ghost use Rattle.streams.specs.Order.{Sorted, before};
 ghost use Rattle.plans.specs.Model.{as_sum};
 ghost use Rattle.windows.specs.Model.{cell_of};
@@ -30,6 +30,16 @@ impl Cell {
         ensures { result ≡ is_of end.0 key.0 (cell_of self) }
     {
         end.0 == self.end.0 && key.0 == self.key.0
+    }
+}
+
+// What the first value of a window and key comes to.
+fn first(how: Aggregate, v: Value) -> Value
+    ensures { result.0 ≡ first_of (as_sum how) v.0 }
+{
+    match how {
+        Aggregate::Count => Value(1),
+        Aggregate::Total | Aggregate::Least | Aggregate::Greatest => v,
     }
 }
 
@@ -88,6 +98,6 @@ pub(crate) fn add(
         cells[at] = Cell { end, key, value };
         return Ok(());
     }
-    let value = how.first(value);
+    let value = first(how, value);
     cells.insert(at, Cell { end, key, value })
 }

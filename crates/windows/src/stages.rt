@@ -1,6 +1,6 @@
 // Events through the stages of a plan: what comes out.
-ghost use Rattle.std.specs.Prelude.{◌≡◌, ◌<◌, true, map};
-ghost use Rattle.streams.specs.Meaning.{as_events, through_stages};
+ghost use Rattle.std.specs.Prelude.{◌≡◌, ◌^◌, ◌<◌, ◌≤◌, true, map, MatchOption};
+ghost use Rattle.streams.specs.Meaning.{end_of, as_events, through_stages};
 ghost use Rattle.streams.specs.Calls.{every, stage_ok};
 ghost use Rattle.streams.specs.Order.{Sorted};
 ghost use Rattle.plans.specs.Model.{as_event, stage_of, plan_of};
@@ -41,6 +41,17 @@ impl<T: Drop> From<AllocFailed<T>> for Fault {
     }
 }
 
+// The end of the window that an event of this time is in: the next multiple of the size above it.
+// None where it is beyond 64 bits; such a window never ends.
+fn window_end(size: Span, t: Time) -> Option<Time>
+    requires { 0 < size.0 }
+    ensures { MatchOption result (2 ^ 64 ≤ end_of size.0 t.0) (λ e. e.0 ≡ end_of size.0 t.0) }
+{
+    let windows = (t.0 / size.0).checked_add(1)?;
+    let end = windows.checked_mul(size.0)?;
+    Some(Time(end))
+}
+
 // One event into the cells of a stage, if it is kept and its window has ended.
 fn absorb(cells: &mut Vec<Cell>, stage: &Stage, mark: Time, event: Event) -> Result<(), Fault>
     requires sized { 0 < stage.now.size.0 }
@@ -50,7 +61,7 @@ fn absorb(cells: &mut Vec<Cell>, stage: &Stage, mark: Time, event: Event) -> Res
     if stage.keep.eval(event) == 0 {
         return Ok(());
     }
-    let Some(end) = stage.window_end(event.time) else {
+    let Some(end) = window_end(stage.size, event.time) else {
         return Ok(());
     };
     if !has_ended(end.0, mark.0) {
