@@ -12,7 +12,7 @@ use Rattle.book.specs.Due.{Sizes, SizesOk}
 use Rattle.book.specs.Ledger.{Served, nobody, LogBox, empty_log, entered, entered_all, let_go, set_at, batched, Taken, taken_of, Ledger, took, new_events, take_events, took_to, log_box, out_box, Rest, Want, wanted, out_written, Turn, Task}
 use Rattle.book.specs.Book.{Book, LogRight, LogsRight, SoundBook, PlanFine, taken_events, turn_of, after_turn, take_into, AllTaken, log_of}
 use Rattle.book.specs.Numbers.{Moves, itself, takes, turn}
-use Rattle.book.specs.Words.{Maybe, just, nothing, wide, Below, AreNumbers, write_all, write_list, write_event, write_served, write_log, out_in}
+use Rattle.book.specs.Words.{Maybe, just, wide, Below, AreNumbers, write_all, write_list, write_event, write_served, write_log, out_in}
 use Rattle.book.specs.Small.{EventsFit, EntriesFit, total}
 use Rattle.book.specs.Limits.{Limits, longest}
 use Rattle.book.specs.Levels.{Within}

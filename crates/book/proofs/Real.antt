@@ -8,7 +8,7 @@ use Rattle.book.specs.Queue.{Link, nil, page, Pages, Write, written, Queue, head
 use Rattle.book.specs.Held.{Paged, Segs, none, plain, packed, Held, head_of, heads, queue_of, ChainIn, SegsIn, HeldIn}
 use Rattle.book.specs.Due.{Step, Spill, Pack, Lower, Sift, Emit, Unpack, Open, shows, index_of, Sound}
 use Rattle.book.specs.Ledger.{Served, nobody, LogBox, passed, came, entered, entered_all, let_go, set_at, batched, Taken, taken_of, Ledger, Task, Publish, Tidy, Wanted, Rest, Want, shows_of, OutWrite, out_written, row_box, out_box, log_box}
-use Rattle.book.specs.Words.{nothing, just, wide, words_bytes, are_words, all_fours, words_for, bytes_of, AreWords, AreNumbers, write_page, write_out}
+use Rattle.book.specs.Words.{just, wide, words_bytes, are_words, all_fours, words_for, bytes_of, AreWords, AreNumbers, write_page, write_out}
 use Rattle.book.specs.Numbers.{Numbered, OutNumbered, Among}
 use Rattle.book.specs.Interface.{lacks, gives, with_page, Filling, IsPage}
 use Rattle.book.specs.Real.{served_of, are_numbers, floor_of, writes, raised, calls_for, calls_of, row_fillings, out_fillings}

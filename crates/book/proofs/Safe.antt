@@ -10,7 +10,7 @@ use Rattle.book.specs.Due.{Sizes, SizesOk}
 use Rattle.book.specs.Ledger.{Served, LogBox, empty_log, workers, let_go, batched, taken_of, Ledger, watermark, is_old, took, Task, Wanted, Rest, Want, wanted, shows_of, OutWrite, out_written, Turn, does, row_box, out_box, log_box}
 use Rattle.book.specs.Words.{Maybe, nothing, just, bytes_of, AreNumbers, write_log, write_ledger, write_page, write_out, log_in, ledger_in, page_in, out_in, Filled}
 use Rattle.book.specs.Book.{Book, empty_book, LogRight, outs_of, came_out, SoundBook, PlanFine, set_log, put_all, put_batch, take_into, turn_of, after_turn, log_of, AllTaken}
-use Rattle.book.specs.Numbers.{Moves, Among, itself, batch, takes, turn, Grows}
+use Rattle.book.specs.Numbers.{Moves, Among, itself, takes, turn, Grows}
 use Rattle.book.specs.Interface.{gives, Calls, with_page, reply, Filling, Ops, IsPage, Now, Gathered, no_page, one_page, Tag, Stays, Laws}
 use Rattle.book.specs.Real.{log_or, ledger_or, or_none, has_by, served_of, floor_of, adds_by, raise_by, calls_of, calls_for, due_by, rests, turn_on, turn_by, turn_for, after_by, row_fillings, out_fillings, pages_by, take_by, answer_by, real}
 use Rattle.book.specs.Limits.{Limits}

@@ -8,7 +8,7 @@ use Rattle.streams.specs.Calls.{Call, Out', Reply, Outs, State, core, first_of, 
 use Rattle.streams.specs.Hands.{Ask, Hand, Stand, here, Seen, called, told, tells, is_used, Scene, Waits, count_at, turned, asking, Alone, Goes, asked, Open, Ready, Book}
 use Rattle.streams.specs.Promise.{streams}
 use Rattle.book.specs.Ledger.{log_box}
-use Rattle.book.specs.Interface.{horizon, nothing, reply, Ops, Safe}
+use Rattle.book.specs.Interface.{horizon, nothing, Ops, Safe}
 use Rattle.worker.specs.Worker.{Job, none, some, rest, Keep, Mind, none', asks, keeping, hearing, waits, start, start_by, accepts, judges, refuses, acts, worker, puts_of}
 use Rattle.book.specs.Live.{Live, AnswersAll}
 use Rattle.shelf.specs.Moments.{calls}
