@@ -17,4 +17,3 @@ pub mod Right
 pub mod Room
 pub mod Levels
 pub mod Live
-pub mod Work

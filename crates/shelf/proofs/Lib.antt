@@ -7,4 +7,3 @@ pub mod Waiting
 pub mod Counts
 pub mod Latelooks
 pub mod Scripts
-pub mod Made

@@ -1,12 +1,11 @@
 -- Cells as joined rows: joining is commutative and associative, and the cells of events in two places are joined.
 -- Assumes nothing.
-use Rattle.std.proofs.Common.{◌≡◌, ℕ, ◌+◌, ◌%◌, ◌<◌, ◌≤◌, Bool, true, false, cond, ◌&&◌, ◌||◌, eqb, ltb, List, [], ◌∷◌, ◌++◌, sym, refl, ap, ◌∙◌, arith}
+use Rattle.std.proofs.Common.{◌≡◌, ℕ, Bool, true, false, cond, eqb, List, [], ◌∷◌, ◌++◌, sym, refl, ap, ◌∙◌, arith}
 use Rattle.std.proofs.lemmas.Bool.Decides.{nat_tests}
-use Rattle.streams.specs.Meaning.{Event, Stage, Cell, Sum, Count, Total, Least, Greatest, top, first, joined, word, end_of, into, cells}
+use Rattle.streams.specs.Meaning.{Event, Stage, Cell, Sum, Count, Total, Least, Greatest, first, joined, word, end_of, into, cells}
 use Rattle.streams.specs.Order.{Bef, Above, Sorted}
 use Rattle.streams.specs.Laws.{together, add_cell, join}
 use Rattle.streams.proofs.Cells.{Tri, lo, eq, hi, tri}
-use Rattle.streams.proofs.Sorted.{sorted}
 
 -- values
 together_swap : (s : Sum) (a b : ℕ) → together s a b ≡ together s b a

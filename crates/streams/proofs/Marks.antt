@@ -1,15 +1,13 @@
 -- Cells past a mark, events at it or after, a plan's limits, and that the mark rises.
 -- Assumes nothing.
-use Rattle.std.proofs.Common.{◌≡◌, ℕ, zero, suc, ◌+◌, ◌-◌, ◌*◌, ◌/◌, ◌<◌, ◌≤◌, Bool, true, false, cond, ◌&&◌, T, eqb, ltb, leb, ◌⊎◌, List, [], ◌∷◌, ◌++◌, length, sym, refl, ap, ◌∙◌, inl, inr, append_assoc, append-nil, arith, ltb→lt}
-use Rattle.std.proofs.lemmas.Bool.{leb-true, leb-false}
+use Rattle.std.proofs.Common.{◌≡◌, ℕ, zero, suc, ◌<◌, ◌≤◌, Bool, true, false, cond, ◌&&◌, T, ltb, leb, List, [], ◌∷◌, ◌++◌, length, refl, ap, ◌∙◌, append-nil, arith, ltb→lt}
 use Rattle.std.proofs.lemmas.Bool.Decides.{nat_tests}
-use Rattle.streams.specs.Meaning.{Event, Entry, Stage, Plan, Cell, later, time_of, less_by, mark, all_in_time, cells, ended, as_events, through, through_stages, out}
+use Rattle.streams.specs.Meaning.{Event, Entry, Stage, Plan, Cell, later, time_of, less_by, mark, cells, ended, as_events}
 use Rattle.streams.specs.Calls.{put_in, every, stage_ok, fine, plan_ok}
 use Rattle.streams.specs.Promise.{latests}
-use Rattle.streams.specs.Order.{Bef, Above, Sorted, Since}
-use Rattle.streams.specs.Laws.{put_latest, least, mark_by, step}
-use Rattle.streams.proofs.Sorted.{sorted}
-use Rattle.streams.proofs.Logs.{ended_yes, ended_no, ended_step, cells_mid, mark_by_latests, put_latests, less_by_is, ended_is_done}
+use Rattle.streams.specs.Order.{Bef, Above, Since}
+use Rattle.streams.specs.Laws.{put_latest, least, mark_by}
+use Rattle.streams.proofs.Logs.{ended_no, ended_step, cells_mid, mark_by_latests, put_latests, less_by_is}
 
 -- cells whose ends are all after a mark
 abbrev pub Past : ℕ → List Cell → Type 0

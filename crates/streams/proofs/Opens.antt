@@ -1,15 +1,15 @@
 -- What must be known to go on: the cells of windows that have not ended. And what is added to what came out.
 -- Assumes nothing.
-use Rattle.std.proofs.Common.{◌≡◌, ℕ, zero, suc, ◌+◌, ◌-◌, ◌*◌, ◌/◌, ◌<◌, ◌≤◌, Bool, true, false, cond, ◌&&◌, ◌||◌, T, eqb, ltb, leb, ◌⊎◌, List, [], ◌∷◌, ◌++◌, length, sym, refl, ap, ◌∙◌, ap₂, inl, inr, append_assoc, append-nil, arith, length-append}
+use Rattle.std.proofs.Common.{◌≡◌, ℕ, zero, suc, ◌+◌, ◌<◌, ◌≤◌, Bool, true, false, cond, T, ltb, leb, List, [], ◌∷◌, ◌++◌, length, sym, refl, ap, ◌∙◌, ap₂, append_assoc, append-nil, arith, length-append}
 use Rattle.std.proofs.lemmas.Bool.{leb-true, leb-false, ltb-false}
 use Rattle.std.proofs.lemmas.Bool.Decides.{nat_tests}
-use Rattle.streams.specs.Meaning.{Event, Entry, Ev, Still, Stage, Plan, Cell, Sum, less_by, latest, in_time, mark, all_in_time, word, end_of, into, cells, ended, as_events, through, through_stages, out}
+use Rattle.streams.specs.Meaning.{Event, Entry, Ev, Still, Stage, Plan, Cell, Sum, less_by, latest, in_time, mark, all_in_time, end_of, into, cells, ended, as_events, through, through_stages, out}
 use Rattle.streams.specs.Order.{Bef, Above, Sorted, Since, Until, After, Rising}
-use Rattle.streams.specs.Calls.{plan_ok, every, stage_ok, put_in}
+use Rattle.streams.specs.Calls.{plan_ok, put_in}
 use Rattle.streams.specs.Promise.{latests}
-use Rattle.streams.specs.Laws.{Known, open_of, opens_of, counts_of, known_of, taken, taken_at, put_latest, put_count, mark_by, step, absorb, Flowed, flow, Gone, go_on, Putting, put_all, go_all}
+use Rattle.streams.specs.Laws.{Known, open_of, opens_of, counts_of, known_of, taken, taken_at, put_latest, put_count, mark_by, step, absorb, Flowed, flow, go_on, Putting, put_all, go_all}
 use Rattle.streams.proofs.Sorted.{sorted}
-use Rattle.streams.proofs.Logs.{in_time_end, cells_mid, add_at, put_cells, put_latests, mark_by_latests, less_by_is, end_after, ended_yes, ended_no, Under, mark_under}
+use Rattle.streams.proofs.Logs.{in_time_end, cells_mid, add_at, put_cells, put_latests, mark_by_latests, less_by_is, end_after, ended_yes, Under, mark_under}
 use Rattle.streams.proofs.Marks.{Past, past_none, above_past, past_since, since_ended, events_both, mark_rises, Sized, plan_sized, plan_some}
 
 -- Open cells by a mark: those past it stay, an event at it or after goes among them, a later mark leaves fewer.

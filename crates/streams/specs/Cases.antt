@@ -1,7 +1,7 @@
 -- Worked examples: a plan, entries put into so many logs, and what comes out then. docs/MEANING.md has them in words.
 -- Assumes nothing.
 use Rattle.std.specs.Prelude.{◌≡◌, ℕ, List, [], ◌∷◌}
-use Rattle.streams.specs.Meaning.{Event, Entry, Ev, Still, Stage, Plan, Expr, Num, Key, Value, Plus, Quotient, Rest, Sum, Count, Total, Greatest, out}
+use Rattle.streams.specs.Meaning.{Event, Ev, Still, Stage, Plan, Expr, Num, Key, Value, Plus, Quotient, Rest, Sum, Count, Total, Greatest, out}
 use Rattle.streams.specs.Calls.{empties}
 use Rattle.streams.specs.Laws.{Putting, put_all}
 

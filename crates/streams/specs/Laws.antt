@@ -1,10 +1,10 @@
 -- Laws of the meaning that let many workers share the work: cells are joined rows, what must be known to go on is
 -- little, and what comes out grows only at its end, in order. Each is a type; a proof of the type is the theorem.
 -- Assumes nothing.
-use Rattle.std.specs.Prelude.{◌≡◌, ℕ, zero, suc, ◌+◌, ◌%◌, ◌<◌, ◌≤◌, Bool, true, false, cond, ◌&&◌, T, List, [], ◌∷◌, ◌++◌, length, ◌==◌, nat_le, nat_lt}
+use Rattle.std.specs.Prelude.{◌≡◌, ℕ, zero, suc, ◌+◌, ◌%◌, cond, ◌&&◌, T, List, [], ◌∷◌, ◌++◌, length, ◌==◌, nat_le, nat_lt}
 use Rattle.streams.specs.Meaning.{Event, Entry, Ev, Still, Stage, Plan, Cell, Sum, Count, Total, Least, Greatest, top, time_of, less_by, later, in_time, mark, all_in_time, word, end_of, into, cells, ended, as_events, through, out}
 use Rattle.streams.specs.Order.{before, Sorted, Rising, Since, Until}
-use Rattle.streams.specs.Calls.{plan_ok, put_in, empties}
+use Rattle.streams.specs.Calls.{plan_ok, put_in}
 use Rattle.streams.specs.Promise.{latests}
 
 -- JOINING. What two values of one window and key come to that were each put together of others.

@@ -1,10 +1,10 @@
 -- What is promised of the whole, and of its parts. Each is a type; a proof of the type is the theorem.
 -- Assumes nothing.
-use Rattle.std.specs.Prelude.{◌≡◌, ℕ, zero, suc, ◌+◌, ◌*◌, ◌<◌, ◌≤◌, Bool, true, false, cond, not, ◌&&◌, ◌||◌, T, eqb, ltb, leb, ◌⊎◌, List, [], ◌∷◌, ◌++◌, map, length}
+use Rattle.std.specs.Prelude.{◌≡◌, ℕ, ◌<◌, ◌≤◌, Bool, cond, not, T, List, [], ◌∷◌, ◌++◌, length}
 use mathlib.Core.List.{Memᴰ}
-use Rattle.streams.specs.Meaning.{Event, Entry, Ev, Still, Stage, Plan, Cell, mark, mark_of, latest, all_in_time, cells, ended, through, through_stages, out, into, end_of, word}
-use Rattle.streams.specs.Calls.{Call, Put, Out', Drop, Reply, No, Yes, Outs, State, begins, put_in, drop_of, first_of, Answers, plan_ok, core}
-use Rattle.streams.specs.Hands.{Hand, In, Ask, Keeper, Open, Ready, Book, OneBook, BusyAtNine, OneIsEnough, Seen, told, tells, Scene, here, Goes, Alone, asking, turned, is_used, count_at}
+use Rattle.streams.specs.Meaning.{Event, Entry, Stage, Plan, Cell, mark, latest, all_in_time, cells, ended, out, word}
+use Rattle.streams.specs.Calls.{Call, Out', Reply, No, Outs, State, begins, put_in, drop_of, first_of, Answers, plan_ok, core}
+use Rattle.streams.specs.Hands.{Hand, Ask, Keeper, Open, Ready, Book, OneBook, BusyAtNine, OneIsEnough, Seen, told, tells, Scene, here, Goes, Alone, asking, turned, is_used, count_at}
 
 -- there is room for 2 to the 36 bytes
 abbrev pub room : ℕ

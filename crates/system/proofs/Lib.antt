@@ -1,2 +1,1 @@
 mod Strange
-mod Together
