@@ -7,8 +7,8 @@ use Rattle.calls.proofs.refusals.bad_entry.Goals as goal
 
 pub returns-in-Happened : goal.returns-in-Happened
 returns-in-Happened c =
-    c.bad-time.ensures ∙ ap (λ (b : Bool). cond b None (Some Invalid)) (sym (ap (λ e. entry_ok (entry_of e)) c.in-Happened.is ∙ happened (as_event c.in-Happened.event) (search rules) (search rules)))
+    c.bad_time.ensures ∙ ap (λ (b : Bool). cond b None (Some Invalid)) (sym (ap (λ e. entry_ok (entry_of e)) c.in-Happened.is ∙ happened (as_event c.in-Happened.event) (search rules) (search rules)))
 
 pub returns-in-Still : goal.returns-in-Still
 returns-in-Still c =
-    c.bad-time-in-Still.ensures ∙ ap (λ (b : Bool). cond b None (Some Invalid)) (sym (ap (λ e. entry_ok (entry_of e)) c.in-Still.is ∙ still c.in-Still.time.0))
+    c.bad_time-in-Still.ensures ∙ ap (λ (b : Bool). cond b None (Some Invalid)) (sym (ap (λ e. entry_ok (entry_of e)) c.in-Still.is ∙ still c.in-Still.time.0))
