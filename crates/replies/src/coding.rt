@@ -8,9 +8,9 @@ ghost use Rattle.replies.specs.Form.{reply_of, Reads, Encodes};
 
 use crate::events::Events;
 use crate::kinds::Reply;
-use octets::{two_from, write_bytes, write_two};
 use calls::kinds::Refusal;
 use calls::refusals::number;
+use octets::{two_from, write_bytes, write_two};
 
 // The kinds of answers, as bytes say them.
 const REFUSED: u8 = 0;

@@ -9,4 +9,4 @@ returns-then-bytes-from c =
     (λ m rest lt e h. let same = two_same m c.in-Some.count rest c.in-Some.bytes.now lt (search rules) (sym e ∙ c.in-Some.ensures) in c.if-bytes-from.true (omega (arith, same.0, ap length same.1)))
 
 pub returns : goal.returns
-returns c = out_told c.args.b.now c.in-Some.bytes.now c.in-Some.count (λ i. omega (arith, c.type-inv.b i)) (search rules) c.in-Some.ensures (omega arith)
+returns c = out_told c.args.b.now c.in-Some.bytes.now c.in-Some.count (λ i. omega (arith, c.type_inv.b i)) (search rules) c.in-Some.ensures (omega arith)
