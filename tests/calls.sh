@@ -3,7 +3,7 @@
 # bytes made from fixed seeds. The last line is 'N passed, M failed'.
 set -u
 cd "$(dirname "$0")/.." || exit 1
-if ! log=$(rt staticlib calls_c 2>&1); then
+if ! log=$(cd crates/calls_c && rt lib 2>&1); then
     echo "$log"
     echo "0 passed, 1 failed"
     exit 1
