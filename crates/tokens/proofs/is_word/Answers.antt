@@ -15,18 +15,18 @@ loop-i-preserved c =
     let room = c.if-not-is.ensures.room refl in
     (c.loop-i.invariant.0 ∙ word_turn c.args.word.now c.args.b.now c.args.at c.loop-i.i c.loop-i-test.true room (sym c.if-not-is.ensures.value), omega arith)
 
-pub returns-then-not-is-letter : goal.returns-then-not-is-letter
-returns-then-not-is-letter c =
+pub returns-then-not-is_letter : goal.returns-then-not-is_letter
+returns-then-not-is_letter c =
     let all : c.loop-i.i ≡ length c.args.word.now = omega (arith, c.loop-i.auto.i-end, c.loop-i-test.false) in
     record {
-      value = sym (c.loop-i.invariant.0 ∙ word_last c.args.word.now c.args.b.now c.args.at c.loop-i.i all (sym c.if-not-is-letter.ensures) (sym c.is-digit.ensures.value));
+      value = sym (c.loop-i.invariant.0 ∙ word_last c.args.word.now c.args.b.now c.args.at c.loop-i.i all (sym c.if-not-is_letter.ensures) (sym c.is_digit.ensures.value));
       room = λ _. omega (arith, c.loop-i.invariant.1);
     }
 
-pub returns-else-not-is-letter : goal.returns-else-not-is-letter
-returns-else-not-is-letter c =
+pub returns-else-not-is_letter : goal.returns-else-not-is_letter
+returns-else-not-is_letter c =
     let all : c.loop-i.i ≡ length c.args.word.now = omega (arith, c.loop-i.auto.i-end, c.loop-i-test.false) in
     record {
-      value = rw c.if-not-is-letter.false (sym (c.loop-i.invariant.0 ∙ word_last c.args.word.now c.args.b.now c.args.at c.loop-i.i all (sym c.if-not-is-letter.ensures) refl));
+      value = rw c.if-not-is_letter.false (sym (c.loop-i.invariant.0 ∙ word_last c.args.word.now c.args.b.now c.args.at c.loop-i.i all (sym c.if-not-is_letter.ensures) refl));
       room = λ _. omega (arith, c.loop-i.invariant.1);
     }
