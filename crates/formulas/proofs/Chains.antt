@@ -10,7 +10,7 @@ use Rattle.grammar.specs.declared.operators.Level.TheVariants as level
 use Rattle.grammar.specs.declared.refusals.Why.{Why}
 use Rattle.grammar.specs.declared.refusals.Why.TheVariants.{Parts}
 use Rattle.grammar.proofs.Readers.{after_got, after_bad, joined_parts, more_turn, expression_two}
-use Rattle.grammar.specs.Reading.{Got, got, bad, Reader, after, skip, is, joined, operator, comparison, join, negate, more, chain, chained, operand, single, bracket, expression}
+use Rattle.grammar.specs.Reading.{Got, got, bad, Reader, after, skip, operator, comparison, join, negate, more, chained, operand, single, bracket, expression}
 use Rattle.tokens.specs.declared.faults.Fault.{Fault}
 use Rattle.tokens.specs.declared.faults.Fault.TheVariants.{Memory, Refused}
 use Rattle.tokens.specs.Says.{Refuses}
