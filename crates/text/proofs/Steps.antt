@@ -2,7 +2,7 @@
 use Rattle.std.proofs.Common.{◌≡◌, ℕ, zero, suc, ◌+◌, ◌-◌, ◌<◌, ◌≤◌, min, true, false, cond, ◌&&◌, ltb, ◌≢◌, ◌⊎◌, List, [], ◌∷◌, ◌++◌, length, get_or, take, drop, Ok, Err, codes, Result, refl, ap, ◌∙◌, inl, inr, arith, length-append, drop-drop}
 use Rattle.std.proofs.lemmas.List.{length-take, get_or-take}
 use Rattle.std.proofs.lemmas.Bool.{lt-ltb, le-ltb, eq-eqb, ne_eqb, and_right}
-use Rattle.streams.specs.Meaning.{Expr, Num, Key, Value, Sum, Stage, Plan}
+use Rattle.streams.specs.Meaning.{Expr, Num, Key, Value, Sum, Stage}
 use Rattle.grammar.specs.declared.refusals.Why.{Why}
 use Rattle.grammar.specs.declared.refusals.Why.TheVariants.{Long, Late, Semicolon, Stages, Lateness}
 use Rattle.grammar.specs.Reading.{Got, got, bad, after, skip, next, is, is_the_word, is_end, part, window, aggregate, stage, stages, limited, plan, reading}
