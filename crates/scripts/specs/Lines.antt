@@ -1,7 +1,7 @@
 -- What a line of a script says, as a function of its bytes: docs/REHEARSE.md has the same in words. White space, words
 -- and numbers are those of plans.
 -- Assumes nothing.
-use Rattle.std.specs.Prelude.{ℕ, ◌+◌, ◌-◌, Bool, true, false, cond, ◌||◌, List, [], ◌∷◌, length, drop, Ok, Err, codes, Result}
+use Rattle.std.specs.Prelude.{ℕ, ◌+◌, ◌-◌, cond, ◌||◌, List, length, drop, Ok, Err, codes, Result}
 use Rattle.plans.specs.declared.entries.Entry.TheVariants as entry
 use Rattle.grammar.specs.Reading.{Got, got, bad, skip, is, is_end, is_the_word, number}
 use Rattle.scripts.specs.declared.commands.Command.{Command}
