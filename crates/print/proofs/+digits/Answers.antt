@@ -9,4 +9,4 @@ returns-then-n-lt10 t c = wrote_as c.word.result _ _ ((48 + c.args.n) ∷ []) (d
 pub returns : goal.returns
 returns t c =
     wrote_as c.word-2.result _ _ (decimal (c.args.n / 10) ++ ((48 + c.args.n % 10) ∷ [])) (decimal c.args.n) (sym (decimal_step c.args.n c.if-n-lt10.false (search rules)))
-    (wrote_after c.word-2.result _ (vec_items c.digits.new.out) _ (decimal (c.args.n / 10)) ((48 + c.args.n % 10) ∷ []) c.in-ok-digits.ensures c.word-2.ensures)
+    (wrote_after c.word-2.result _ (vec_items c.digits.new.out) _ (decimal (c.args.n / 10)) ((48 + c.args.n % 10) ∷ []) c.in_ok-digits.ensures c.word-2.ensures)

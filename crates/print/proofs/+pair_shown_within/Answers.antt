@@ -12,16 +12,16 @@ pair-returns t c =
     let b = expr_of c.args.b.now in
     let left = within c.args.left (bond a) (shown a) in
     let right = within c.args.right (bond b) (shown b) in
-    wrote_after c.within-2.result (vec_items c.args.out.now) (vec_items c.within.new.out) (vec_items c.within-2.new.out) left (32 ∷ c.args.sign ∷ 32 ∷ right) c.in-ok-within.ensures
-    (wrote_after c.within-2.result (vec_items c.within.new.out) (vec_items c.word.new.out) (vec_items c.within-2.new.out) (32 ∷ c.args.sign ∷ 32 ∷ []) right c.in-ok-word.ensures c.within-2.ensures)
+    wrote_after c.within-2.result (vec_items c.args.out.now) (vec_items c.within.new.out) (vec_items c.within-2.new.out) left (32 ∷ c.args.sign ∷ 32 ∷ right) c.in_ok-within.ensures
+    (wrote_after c.within-2.result (vec_items c.within.new.out) (vec_items c.word.new.out) (vec_items c.within-2.new.out) (32 ∷ c.args.sign ∷ 32 ∷ []) right c.in_ok-word.ensures c.within-2.ensures)
 
 pub within-returns : goal.within-returns
 within-returns t c =
     let e = expr_of c.args.e.now in
     let less : within c.args.least (bond e) (shown e) ≡ 40 ∷ (shown e ++ (41 ∷ [])) = rw (lt-ltb (bond e) c.args.least (omega (arith, c.if-bond-least.false, c.bond.ensures))) in
     wrote_as c.word-2.result _ _ (40 ∷ (shown e ++ (41 ∷ []))) (within c.args.least (bond e) (shown e)) (sym less)
-    (wrote_after c.word-2.result _ (vec_items c.word.new.out) _ (40 ∷ []) (shown e ++ (41 ∷ [])) c.in-ok-word.ensures
-    (wrote_after c.word-2.result _ (vec_items c.shown-2.new.out) _ (shown e) (41 ∷ []) c.in-ok-shown.ensures c.word-2.ensures))
+    (wrote_after c.word-2.result _ (vec_items c.word.new.out) _ (40 ∷ []) (shown e ++ (41 ∷ [])) c.in_ok-word.ensures
+    (wrote_after c.word-2.result _ (vec_items c.shown-2.new.out) _ (shown e) (41 ∷ []) c.in_ok-shown.ensures c.word-2.ensures))
 
 pub shown-returns-in-Num : goal.shown-returns-in-Num
 unfolding shown
@@ -103,10 +103,10 @@ shown-returns-in-Same t c =
     let eq : spec.Same a b ≡ expr_of c.args.e.now = (λ i. spec.Same (expr_of (c.deref-in-Same.ensures i)) (expr_of (c.deref-in-Same-2.ensures i))) ∙ sym (ap expr_of c.in-Same.is) in
     wrote_as c.pair-in-Same.result _ _ (pair 61 (within 2 (bond a) (shown a)) (within 2 (bond b) (shown b))) (shown (expr_of c.args.e.now)) (ap shown eq) c.pair-in-Same.ensures
 
-pub shown-returns-in-ok-word : goal.shown-returns-in-ok-word
+pub shown-returns-in_ok-word-in-Not : goal.shown-returns-in_ok-word-in-Not
 unfolding shown
-shown-returns-in-ok-word t c =
+shown-returns-in_ok-word-in-Not t c =
     let a = expr_of c.deref-in-Not.result.now in
     let eq : spec.Not a ≡ expr_of c.args.e.now = ap (λ x. spec.Not (expr_of x)) c.deref-in-Not.ensures ∙ sym (ap expr_of c.in-Not.is) in
     wrote_as c.within.result _ _ (33 ∷ within 4 (bond a) (shown a)) (shown (expr_of c.args.e.now)) (ap shown eq)
-    (wrote_after c.within.result _ _ _ (33 ∷ []) (within 4 (bond a) (shown a)) c.in-ok-word.ensures c.within.ensures)
+    (wrote_after c.within.result _ _ _ (33 ∷ []) (within 4 (bond a) (shown a)) c.in_ok-word-in-Not.ensures c.within.ensures)

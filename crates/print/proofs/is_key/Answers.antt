@@ -8,5 +8,5 @@ pub returns-in-Key : goal.returns-in-Key
 unfolding is_just_key
 returns-in-Key c = sym (ap (λ e. is_just_key (expr_of e)) c.in-Key.is)
 
-pub returns-in-default : goal.returns-in-default
-returns-in-default c = sym (no_key c.args.e.now c.in-default.not-Key)
+pub returns-in_default : goal.returns-in_default
+returns-in_default c = sym (no_key c.args.e.now c.in_default.not-Key)

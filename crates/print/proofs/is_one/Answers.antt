@@ -8,5 +8,5 @@ pub returns-in-Num : goal.returns-in-Num
 unfolding is_number_one
 returns-in-Num c = sym (ap (λ e. is_number_one (expr_of e)) c.in-Num.is)
 
-pub returns-in-default : goal.returns-in-default
-returns-in-default c = sym (no_one c.args.e.now c.in-default.not-Num)
+pub returns-in_default : goal.returns-in_default
+returns-in_default c = sym (no_one c.args.e.now c.in_default.not-Num)

@@ -8,5 +8,5 @@ pub returns-in-Value : goal.returns-in-Value
 unfolding is_value
 returns-in-Value c = sym (ap (λ e. is_value (expr_of e)) c.in-Value.is)
 
-pub returns-in-default : goal.returns-in-default
-returns-in-default c = sym (no_value c.args.e.now c.in-default.not-Value)
+pub returns-in_default : goal.returns-in_default
+returns-in_default c = sym (no_value c.args.e.now c.in_default.not-Value)

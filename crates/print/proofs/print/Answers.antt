@@ -5,4 +5,4 @@ use Rattle.print.proofs.print.Goals as goal
 
 pub returns : goal.returns
 unfolding printed
-returns c = printed_all (decimal c.args.plan.now.late.0) c.new-out.ensures.items c.in-ok-word.ensures c.in-ok-digits.ensures c.in-ok-stages-text.ensures c.as-slice.ensures.value
+returns c = printed_all (decimal c.args.plan.now.late.0) c.new-out.ensures.items c.in_ok-word.ensures c.in_ok-digits.ensures c.in_ok-stages_text.ensures c.as_slice.ensures.value

@@ -19,9 +19,9 @@ returns c =
     let sized = codes "in " ++ (size ++ last) in
     let valued = said (codes "value") (is_value value) value ++ sized in
     let keyed = said (codes "key") (is_just_key key) key ++ valued in
-    wrote_after r _ (vec_items c.said.new.out) end (said (codes "keep") (is_number_one keep) keep) keyed (c.in-ok-said.ensures ∙ ap (λ b. vec_items c.args.out.now ++ said (codes "keep") b keep) c.is-one.ensures)
-    (wrote_after r _ (vec_items c.said-2.new.out) end (said (codes "key") (is_just_key key) key) valued (c.in-ok-said-2.ensures ∙ ap (λ b. vec_items c.said.new.out ++ said (codes "key") b key) c.is-key.ensures)
-    (wrote_after r _ (vec_items c.said-3.new.out) end (said (codes "value") (is_value value) value) sized (c.in-ok-said-3.ensures ∙ ap (λ b. vec_items c.said-2.new.out ++ said (codes "value") b value) c.is-value.ensures)
-    (wrote_after r _ (vec_items c.word.new.out) end (codes "in ") (size ++ last) c.in-ok-word.ensures
-    (wrote_after r _ (vec_items c.digits.new.out) end size last c.in-ok-digits.ensures
-    (wrote_after r _ (vec_items c.word-2.new.out) end (32 ∷ []) name c.in-ok-word-2.ensures (wrote_as r _ end c.named.result.now name c.named.ensures c.word-3.ensures))))))
+    wrote_after r _ (vec_items c.said.new.out) end (said (codes "keep") (is_number_one keep) keep) keyed (c.in_ok-said.ensures ∙ ap (λ b. vec_items c.args.out.now ++ said (codes "keep") b keep) c.is_one.ensures)
+    (wrote_after r _ (vec_items c.said-2.new.out) end (said (codes "key") (is_just_key key) key) valued (c.in_ok-said-2.ensures ∙ ap (λ b. vec_items c.said.new.out ++ said (codes "key") b key) c.is_key.ensures)
+    (wrote_after r _ (vec_items c.said-3.new.out) end (said (codes "value") (is_value value) value) sized (c.in_ok-said-3.ensures ∙ ap (λ b. vec_items c.said-2.new.out ++ said (codes "value") b value) c.is_value.ensures)
+    (wrote_after r _ (vec_items c.word.new.out) end (codes "in ") (size ++ last) c.in_ok-word.ensures
+    (wrote_after r _ (vec_items c.digits.new.out) end size last c.in_ok-digits.ensures
+    (wrote_after r _ (vec_items c.word-2.new.out) end (32 ∷ []) name c.in_ok-word-2.ensures (wrote_as r _ end c.named.result.now name c.named.ensures c.word-3.ensures))))))

@@ -4,7 +4,7 @@ use Rattle.print.proofs.stages_text.Goals as goal
 
 pub loop-stage-preserved : goal.loop-stage-preserved
 loop-stage-preserved c =
-    stage_more c.args.stages.now c.loop-stage.stage-index c.stage-item.result (vec_items c.loop-stage.out) (vec_items c.word.new.out) (vec_items c.stage-text.new.out) c.loop-stage-test.true c.stage-item.is c.in-ok-word.ensures c.in-ok-stage-text.ensures
+    stage_more c.args.stages.now c.loop-stage.stage-index c.stage-item.result (vec_items c.loop-stage.out) (vec_items c.word.new.out) (vec_items c.stage_text.new.out) c.loop-stage-test.true c.stage-item.is c.in_ok-word.ensures c.in_ok-stage_text.ensures
     ∙ c.loop-stage.invariant
 
 pub returns : goal.returns
