@@ -1,6 +1,6 @@
 -- What the values of the code stand for in the definitions of the meaning.
 -- Assumes nothing.
-use Rattle.std.specs.Prelude.{ℕ, List, map, vec_items}
+use Rattle.std.specs.Prelude.{map, vec_items}
 use Rattle.streams.specs.Meaning as spec
 use Rattle.plans.specs.declared.entries.Event.{Event}
 use Rattle.plans.specs.declared.entries.Entry.{Entry}

@@ -1,4 +1,4 @@
-use Rattle.std.proofs.Common.{ap, arith, rules}
+use Rattle.std.proofs.Common.{ap, rules}
 use Rattle.plans.specs.Model.{expr_of}
 use Rattle.plans.proofs.Steps.{at_num, at_time, at_key, at_value, at_plus, at_minus, at_times, at_quotient_0, at_quotient, at_rest_0, at_rest, at_less, at_same, at_not}
 use Rattle.plans.proofs.exprs.Expr.+eval.Goals as goal
