@@ -1,13 +1,13 @@
 -- One stage: an event more among the cells that have ended, and stages one after the other.
 -- Assumes nothing.
-use Rattle.std.proofs.Common.{◌≡◌, ℕ, zero, suc, ◌+◌, ◌<◌, ◌≤◌, Bool, true, false, cond, not, ◌&&◌, ◌||◌, eqb, ltb, leb, List, [], ◌∷◌, ◌++◌, map, length, get_or, take, drop, sym, refl, ap, ◌∙◌, subst, append-nil, arith}
+use Rattle.std.proofs.Common.{◌≡◌, ℕ, zero, suc, ◌+◌, ◌<◌, ◌≤◌, Bool, true, false, cond, not, ◌||◌, eqb, leb, List, [], ◌∷◌, map, length, get_or, take, drop, sym, refl, ap, ◌∙◌, append-nil, arith}
 use Rattle.std.proofs.lemmas.List.{map_more, take_all}
 use Rattle.std.proofs.lemmas.Bool.{leb-true, leb-false, and_parts}
 use Rattle.std.proofs.lemmas.Bool.Decides.{nat_tests}
 use Rattle.streams.specs.Meaning as spec
 use Rattle.streams.specs.Meaning.{word, end_of, into, cells, ended, through_stages, through}
 use Rattle.streams.specs.Order.{Sorted}
-use Rattle.streams.specs.Calls.{every, stage_ok, fine}
+use Rattle.streams.specs.Calls.{every, stage_ok}
 use Rattle.streams.specs.Laws.{step}
 use Rattle.streams.proofs.Sorted.{sorted}
 use Rattle.streams.proofs.Logs.{cells_mid, ended_into}

@@ -9,4 +9,4 @@ returns-then-holds c =
 
 pub returns : goal.returns
 returns c =
-    add_new_if (as_sum c.args.how) c.args.value.0 (vec_items c.args.cells.now) _ _ (rw c.deref.ensures.value at c.find-at.ensures) _ _ c.insert.ensures.items c.first_value.ensures (rw c.deref-2.ensures.value at c.if-holds.ensures)
+    add_new_if (as_sum c.args.how) c.args.value.0 (vec_items c.args.cells.now) _ _ (rw c.deref.ensures.value at c.find-at.ensures) _ _ c.insert.ensures.items c.first-value.ensures (rw c.deref-2.ensures.value at c.if-holds.ensures)

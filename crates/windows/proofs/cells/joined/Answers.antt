@@ -7,14 +7,14 @@ returns-in-Count c = joined_count _ _ c.in-Count.is
 pub returns-in-Total : goal.returns-in-Total
 returns-in-Total c = joined_total _ _ c.in-Total.is
 
-pub returns-then-v-so-far : goal.returns-then-v-so-far
-returns-then-v-so-far c = (joined_least _ _ c.in-Least.is).0 c.if-v-so-far.true
+pub returns-then-v-so_far : goal.returns-then-v-so_far
+returns-then-v-so_far c = (joined_least _ _ c.in-Least.is).0 c.if-v-so_far.true
 
-pub returns-else-v-so-far : goal.returns-else-v-so-far
-returns-else-v-so-far c = (joined_least _ _ c.in-Least.is).1 c.if-v-so-far.false
+pub returns-else-v-so_far : goal.returns-else-v-so_far
+returns-else-v-so_far c = (joined_least _ _ c.in-Least.is).1 c.if-v-so_far.false
 
-pub returns-then-so-far-v : goal.returns-then-so-far-v
-returns-then-so-far-v c = (joined_greatest _ _ c.in-Greatest.is).0 c.if-so-far-v.true
+pub returns-then-so_far-v : goal.returns-then-so_far-v
+returns-then-so_far-v c = (joined_greatest _ _ c.in-Greatest.is).0 c.if-so_far-v.true
 
-pub returns-else-so-far-v : goal.returns-else-so-far-v
-returns-else-so-far-v c = (joined_greatest _ _ c.in-Greatest.is).1 c.if-so-far-v.false
+pub returns-else-so_far-v : goal.returns-else-so_far-v
+returns-else-so_far-v c = (joined_greatest _ _ c.in-Greatest.is).1 c.if-so_far-v.false

@@ -7,11 +7,11 @@ pub absorb-requires : goal.absorb-requires
 absorb-requires c = record { sized = c.requires; sorted = cells_sorted (stage_of c.args.stage.now) c.args.mark.0 c.args.events.now _ _ c.loop-event.invariant }
 
 pub loop-event-preserved : goal.loop-event-preserved
-loop-event-preserved c = cells_more (stage_of c.args.stage.now) c.args.mark.0 c.args.events.now _ _ _ _ c.loop-event-test.true c.loop-event.invariant c.in-ok-absorb.ensures
+loop-event-preserved c = cells_more (stage_of c.args.stage.now) c.args.mark.0 c.args.events.now _ _ _ _ c.loop-event-test.true c.loop-event.invariant c.in_ok-absorb.ensures
 
 pub loop-event-init : goal.loop-event-init
 unfolding cells ended
 loop-event-init c = rw c.new-cells.ensures.items
 
 pub returns : goal.returns
-returns c = rw (c.deref.ensures.value, all_through (stage_of c.args.stage.now) c.args.mark.0 c.args.events.now _ _ c.loop-event-test.false c.loop-event.invariant) at c.events-of.ensures
+returns c = rw (c.deref.ensures.value, all_through (stage_of c.args.stage.now) c.args.mark.0 c.args.events.now _ _ c.loop-event-test.false c.loop-event.invariant) at c.events_of.ensures

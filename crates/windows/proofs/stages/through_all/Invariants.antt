@@ -6,4 +6,4 @@ use Rattle.windows.proofs.stages.through_all.Given as goal
 
 -- what is left of the stages makes the same of it
 abbrev pub invariant-loop-stage : goal.invariant-loop-stage
-invariant-loop-stage l = through_stages (map stage_of (drop l.stage-index l.stages)) l.mark.0 (events l.so-far) ≡ through_stages (map stage_of l.stages) l.mark.0 (events l.initial.so-far)
+invariant-loop-stage l = through_stages (map stage_of (drop l.stage-index l.stages)) l.mark.0 (events l.so_far) ≡ through_stages (map stage_of l.stages) l.mark.0 (events l.initial.so_far)
