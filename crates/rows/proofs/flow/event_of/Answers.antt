@@ -10,4 +10,4 @@ less_one_is (suc n) = omega arith
 pub returns : goal.returns
 returns c =
     let row = c.args.row in
-    ap (λ (t : ℕ). record { time = t; key = row.at.key.0; value = row.value.0 }) (c.saturating-sub.ensures ∙ less_one_is row.at.end.0)
+    ap (λ (t : ℕ). record { time = t; key = row.at.key.0; value = row.value.0 }) (c.saturating_sub.ensures ∙ less_one_is row.at.end.0)

@@ -51,26 +51,26 @@ sized (st ∷ sts) zero d h lt = h.0
 sized (st ∷ sts) (suc i) d h lt = sized sts i d h.1 (omega arith)
 
 pub returns-then-i-stages : goal.returns-then-i-stages
-returns-then-i-stages c = out c.args.stages.now (row_of c.args.row) c.event-of-event.result (omega arith) c.event-of-event.ensures
+returns-then-i-stages c = out c.args.stages.now (row_of c.args.row) c.event_of-event.result (omega arith) c.event_of-event.ensures
 
-pub row-of-requires : goal.row-of-requires
-row-of-requires c =
+pub row_of-requires : goal.row_of-requires
+row_of-requires c =
     let d = c.index-stages-i.result in
-    let z = sized c.args.stages.now c.saturating-add-next.result d c.requires c.if-i-stages.false in
+    let z = sized c.args.stages.now c.saturating_add-next.result d c.requires c.if-i-stages.false in
     subst (λ (x : Stage). 0 < x.size.0) (sym c.index-stages-i.is) z
 
 pub returns-in-Some : goal.returns-in-Some
 returns-in-Some c =
     let d = c.index-stages-i.result in
-    let i = c.saturating-add-next.result in
-    let e = c.event-of-event.result in
-    on c.args.stages.now (row_of c.args.row) i d e (On c.in-Some.row) (omega arith) c.if-i-stages.false c.index-stages-i.is c.event-of-event.ensures
+    let i = c.saturating_add-next.result in
+    let e = c.event_of-event.result in
+    on c.args.stages.now (row_of c.args.row) i d e (On c.in-Some.row) (omega arith) c.if-i-stages.false c.index-stages-i.is c.event_of-event.ensures
     (λ rest. entered (stage_of d) i rest (as_event e) c.in-Some.row c.in-Some.ensures)
 
 pub returns-in-None : goal.returns-in-None
 returns-in-None c =
     let d = c.index-stages-i.result in
-    let i = c.saturating-add-next.result in
-    let e = c.event-of-event.result in
-    on c.args.stages.now (row_of c.args.row) i d e Gone (omega arith) c.if-i-stages.false c.index-stages-i.is c.event-of-event.ensures
+    let i = c.saturating_add-next.result in
+    let e = c.event_of-event.result in
+    on c.args.stages.now (row_of c.args.row) i d e Gone (omega arith) c.if-i-stages.false c.index-stages-i.is c.event_of-event.ensures
     (λ rest. refused (stage_of d) i rest (as_event e) c.in-None.ensures)

@@ -17,7 +17,7 @@ pub loop-i-preserved : goal.loop-i-preserved
 loop-i-preserved c = record {
   from = omega arith;
   upto = omega arith;
-  few = omega (arith, c.add-so-far.ensures.few);
-  sorted = c.add-so-far.ensures.sorted;
-  rows = merge_more (aggregates_of c.args.stages.now) (row_in c.args.from.now) c.args.part.end c.loop-i.i (row_of c.row-at-row.result) _ _ _ (omega arith) (omega arith) c.row-at-row.ensures c.loop-i.invariant.rows c.add-so-far.ensures.rows;
+  few = omega (arith, c.add-so_far.ensures.few);
+  sorted = c.add-so_far.ensures.sorted;
+  rows = merge_more (aggregates_of c.args.stages.now) (row_in c.args.from.now) c.args.part.end c.loop-i.i (row_of c.row_at-row.result) _ _ _ (omega arith) (omega arith) c.row_at-row.ensures c.loop-i.invariant.rows c.add-so_far.ensures.rows;
 }

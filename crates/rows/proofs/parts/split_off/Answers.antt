@@ -13,6 +13,6 @@ returns c =
     record {
       count = refl;
       lower = sym e;
-      upper = c.copy-part.ensures.rows;
-      sorted = λ h. (rw e at (sorted_left at rs h), c.copy-part.ensures.sorted n all h);
+      upper = c.copy_part.ensures.rows;
+      sorted = λ h. (rw e at (sorted_left at rs h), c.copy_part.ensures.sorted n all h);
     }

@@ -5,8 +5,8 @@ use Rattle.rows.proofs.segments.share.Goals as goal
 
 pub returns-then-all-most : goal.returns-then-all-most
 returns-then-all-most c =
-    let all = c.rows-within-all.result in
-    let r = c.rows-within-all.ensures.run in
+    let all = c.rows_within-all.result in
+    let r = c.rows_within-all.ensures.run in
     record {
       order = r.order;
       within = r.within;
@@ -16,8 +16,8 @@ returns-then-all-most c =
 
 pub returns : goal.returns
 returns c =
-    let all = c.rows-within-all.result in
-    let r = c.rows-within-all.ensures.run in
+    let all = c.rows_within-all.result in
+    let r = c.rows_within-all.ensures.run in
     record {
       order = omega arith;
       within = omega (arith, r.within);
