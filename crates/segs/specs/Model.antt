@@ -1,6 +1,6 @@
 -- What the values of the code stand for in the definitions of the book.
 -- Assumes nothing.
-use Rattle.std.specs.Prelude.{ℕ, suc, ◌<◌}
+use Rattle.std.specs.Prelude.{suc, ◌<◌}
 use Rattle.streams.specs.Meaning.{top}
 use Rattle.book.specs.Queue as book
 use Rattle.rows.specs.Model.{key_of}

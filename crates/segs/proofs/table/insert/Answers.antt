@@ -7,8 +7,8 @@ pub returns : goal.returns
 returns c =
     let n = c.args.count in
     let s = c.shift.ensures in
-    let p = c.set-seg.ensures in
-    let g = c.set-seg.new.words in
+    let p = c.set_seg.ensures in
+    let g = c.set_seg.new.words in
     let one : (k : ℕ) → k + 1 ≡ suc k = λ k. omega arith in
     ap (λ k. segs_of k g) (one n)
     ∙ inserted (seg_in c.args.words.now) (seg_in g) n c.args.i _ c.requires.order (λ j q. p.others j (λ z. omega (arith, q, z)) ∙ s.low j q) p.at

@@ -6,4 +6,4 @@ use Rattle.segs.proofs.table.remove_part.Goals as goal
 pub returns : goal.returns
 returns c =
     let p = c.args.part in
-    record { count = refl; segments = part_removed (seg_in c.args.words.now) (seg_in c.copy-within.new.self) c.args.count p.start p.end c.requires.order c.requires.within (λ j p. search rules) (λ j p. search rules) }
+    record { count = refl; segments = part_removed (seg_in c.args.words.now) (seg_in c.copy_within.new.self) c.args.count p.start p.end c.requires.order c.requires.within (λ j p. search rules) (λ j p. search rules) }
