@@ -1,5 +1,5 @@
 use native.Mathlib.Omega.{arith}
-use mathlib.Core.Path.{◌≡◌, refl, sym, ◌∙◌}
+use mathlib.Core.Path.{refl, sym, ◌∙◌}
 use Rattle.rows.specs.Model.{row_of, aggregates_of}
 use Rattle.rows.specs.Table.{rows_of}
 use Rattle.segs.specs.Model.{page_link}
@@ -8,8 +8,8 @@ use Rattle.queue.specs.Model.{queue_in}
 use Rattle.queue.proofs.Places.{place_up, place_low}
 use Rattle.queue.proofs.place.Goals as goal
 
-pub returns-then-is-up : goal.returns-then-is-up
-returns-then-is-up c =
+pub returns-then-is_up : goal.returns-then-is_up
+returns-then-is_up c =
     let h = c.args.header in
     let p = c.requires.ready in
     let a = c.add-count.ensures in
@@ -18,7 +18,7 @@ returns-then-is-up c =
     record {
       holds = record {
         is = (λ i. record { front = rows_of h.front f; buffer = a.rows i; segments = segs_of h.segments s; source = page_link h.source; next = h.next.0 })
-            ∙ sym (place_up (aggregates_of c.args.stages.now) (row_of c.args.row) (queue_in f c.args.buffer.now s h) c.if-is-up.ensures);
+            ∙ sym (place_up (aggregates_of c.args.stages.now) (row_of c.args.row) (queue_in f c.args.buffer.now s h) c.if-is_up.ensures);
         ready = record { front = p.front; buffer = omega (arith, a.few); segments = p.segments; front_sorted = p.front_sorted; buffer_sorted = a.sorted };
       };
       few = omega (arith, a.few);
@@ -37,7 +37,7 @@ returns c =
     record {
       holds = record {
         is = (λ i. record { front = a.rows i; buffer = rows_of h.buffer b; segments = segs_of h.segments s; source = page_link h.source; next = h.next.0 })
-            ∙ sym (place_low (aggregates_of c.args.stages.now) (row_of c.args.row) (queue_in c.args.front.now b s h) c.if-is-up.ensures);
+            ∙ sym (place_low (aggregates_of c.args.stages.now) (row_of c.args.row) (queue_in c.args.front.now b s h) c.if-is_up.ensures);
         ready = record { front = omega (arith, a.few); buffer = p.buffer; segments = p.segments; front_sorted = a.sorted; buffer_sorted = p.buffer_sorted };
       };
       few = omega (arith, a.few);
