@@ -83,9 +83,14 @@ def imported(text):
     return names
 
 
+def aliases(text):
+    """Names under which a file brings in another, as in {digits as digitsAt}."""
+    return {name for name in re.findall(r"\bas (" + WORD + r")[,}]", text) if is_old(name)}
+
+
 def turn(text, names, goals=False):
     """Writes the names anew. In files of goals a member that is named after a function, as c.seg-at, is the kit's."""
-    names = names - imported(text)
+    names = names - imported(text) | aliases(text)
 
     def one(m):
         path = m.group(0)
@@ -103,7 +108,7 @@ def turn(text, names, goals=False):
 
 def turn_rust(text, names):
     pieces = re.split(r'("(?:[^"\\\n]|\\.)*")', text)
-    names = names - imported(text)
+    names = names - imported(text) | aliases(text)
     return "".join(p if i % 2 else turn(p, names) for i, p in enumerate(pieces))
 
 

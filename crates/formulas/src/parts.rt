@@ -1,6 +1,6 @@
 // What one expression is made of: operators, and expressions that are joined, with their number of parts.
 ghost use Rattle.std.specs.Prelude.{◌≡◌, ◌+◌, ◌<◌, ◌≤◌, length, drop};
-ghost use Rattle.grammar.specs.Reading.{joined as joinedOf, operator as operatorAt, comparison as comparisonAt, leaf as leafAt};
+ghost use Rattle.grammar.specs.Reading.{joined as joined_of, operator as operator_at, comparison as comparison_at, leaf as leaf_at};
 ghost use Rattle.grammar.specs.declared.operators.Level.TheVariants.{Sum, Product};
 ghost use Rattle.plans.specs.Model.{expr_of};
 ghost use Rattle.formulas.specs.Says.{SaysPart, Joins, Negates, Found};
@@ -25,7 +25,7 @@ const MOST: usize = MOST_PARTS as usize;
 
 // The operator of a sum or of a product at `at`.
 pub(crate) fn operator(b: &[u8], at: usize, level: Level) -> Option<Operator>
-    ensures { Found (operatorAt level (drop at b.now)) at (length b.now) result }
+    ensures { Found (operator_at level (drop at b.now)) at (length b.now) result }
 {
     match level {
         Level::Sum => sum_operator(b, at),
@@ -34,7 +34,7 @@ pub(crate) fn operator(b: &[u8], at: usize, level: Level) -> Option<Operator>
 }
 
 fn sum_operator(b: &[u8], at: usize) -> Option<Operator>
-    ensures { Found (operatorAt Sum (drop at b.now)) at (length b.now) result }
+    ensures { Found (operator_at Sum (drop at b.now)) at (length b.now) result }
 {
     if is(b, at, b'+') {
         return Some(Operator::Plus);
@@ -46,7 +46,7 @@ fn sum_operator(b: &[u8], at: usize) -> Option<Operator>
 }
 
 fn product_operator(b: &[u8], at: usize) -> Option<Operator>
-    ensures { Found (operatorAt Product (drop at b.now)) at (length b.now) result }
+    ensures { Found (operator_at Product (drop at b.now)) at (length b.now) result }
 {
     if is(b, at, b'*') {
         return Some(Operator::Times);
@@ -62,7 +62,7 @@ fn product_operator(b: &[u8], at: usize) -> Option<Operator>
 
 // The comparison at `at`.
 pub(crate) fn comparison(b: &[u8], at: usize) -> Option<Operator>
-    ensures { Found (comparisonAt (drop at b.now)) at (length b.now) result }
+    ensures { Found (comparison_at (drop at b.now)) at (length b.now) result }
 {
     if is(b, at, b'<') {
         return Some(Operator::Less);
@@ -76,7 +76,7 @@ pub(crate) fn comparison(b: &[u8], at: usize) -> Option<Operator>
 // A number, or one of the words that stand for something of an event.
 pub(crate) fn leaf(b: &[u8], at: usize) -> Result<Part, Fault>
     requires { at ≤ length b.now }
-    ensures { SaysPart (leafAt (drop at b.now)) b.now result }
+    ensures { SaysPart (leaf_at (drop at b.now)) b.now result }
 {
     if is_digit(b, at) {
         let number = digits(b, at)?;
@@ -114,7 +114,7 @@ pub(crate) fn leaf(b: &[u8], at: usize) -> Result<Part, Fault>
 }
 
 fn pair(op: Operator, a: Box<Expr>, b: Box<Expr>) -> Expr
-    ensures { expr_of result ≡ joinedOf op (expr_of a.value) (expr_of b.value) }
+    ensures { expr_of result ≡ joined_of op (expr_of a.value) (expr_of b.value) }
 {
     match op {
         Operator::Plus => Expr::Plus(a, b),

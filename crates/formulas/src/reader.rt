@@ -1,7 +1,7 @@
 // The readers of expressions. Each takes a place in the text, and gives what it read with the place behind it, or the
 // reason and the place of a refusal.
 ghost use Rattle.std.specs.Prelude.{◌<◌, ◌≤◌, length, drop};
-ghost use Rattle.grammar.specs.Reading.{expression as expressionAt, chained as chainedAt, operand as operand_at, factor as factorAt, bracket as bracketAt};
+ghost use Rattle.grammar.specs.Reading.{expression as expression_at, chained as chained_at, operand as operand_at, factor as factor_at, bracket as bracket_at};
 ghost use Rattle.formulas.specs.Says.{SaysPart};
 
 use crate::parts::{Part, comparison, joined, leaf, negated, operator};
@@ -18,7 +18,7 @@ const NOTS: u8 = 64;
 #[cycle(bracket_chain_expression_factor_operand)]
 pub fn expression(heap: Global, b: &[u8], at: usize, deep: u8) -> Result<Part, Fault>
     requires { at ≤ length b.now }
-    ensures { SaysPart (expressionAt deep (drop at b.now)) b.now result }
+    ensures { SaysPart (expression_at deep (drop at b.now)) b.now result }
 {
     let left = chain(heap, b, at, deep, Level::Sum)?;
     let place = skip(b, left.end);
@@ -41,7 +41,7 @@ pub fn expression(heap: Global, b: &[u8], at: usize, deep: u8) -> Result<Part, F
 #[cycle(bracket_chain_expression_factor_operand)]
 fn chain(heap: Global, b: &[u8], at: usize, deep: u8, level: Level) -> Result<Part, Fault>
     requires { at ≤ length b.now }
-    ensures { SaysPart (chainedAt level (bracketAt deep) (drop at b.now)) b.now result }
+    ensures { SaysPart (chained_at level (bracket_at deep) (drop at b.now)) b.now result }
 {
     let mut left = operand(heap, b, at, deep, level)?;
     loop {
@@ -58,7 +58,7 @@ fn chain(heap: Global, b: &[u8], at: usize, deep: u8, level: Level) -> Result<Pa
 #[cycle(bracket_chain_expression_factor_operand)]
 fn operand(heap: Global, b: &[u8], at: usize, deep: u8, level: Level) -> Result<Part, Fault>
     requires { at ≤ length b.now }
-    ensures { SaysPart (operand_at level (bracketAt deep) (drop at b.now)) b.now result }
+    ensures { SaysPart (operand_at level (bracket_at deep) (drop at b.now)) b.now result }
 {
     match level {
         Level::Sum => chain(heap, b, at, deep, Level::Product),
@@ -70,7 +70,7 @@ fn operand(heap: Global, b: &[u8], at: usize, deep: u8, level: Level) -> Result<
 #[cycle(bracket_chain_expression_factor_operand)]
 fn factor(heap: Global, b: &[u8], at: usize, deep: u8, nots: u8) -> Result<Part, Fault>
     requires { at ≤ length b.now }
-    ensures { SaysPart (factorAt (bracketAt deep) nots (drop at b.now)) b.now result }
+    ensures { SaysPart (factor_at (bracket_at deep) nots (drop at b.now)) b.now result }
 {
     let place = skip(b, at);
     if is(b, place, b'!') {
@@ -93,7 +93,7 @@ fn factor(heap: Global, b: &[u8], at: usize, deep: u8, nots: u8) -> Result<Part,
 #[cycle(bracket_chain_expression_factor_operand)]
 fn bracket(heap: Global, b: &[u8], at: usize, deep: u8) -> Result<Part, Fault>
     requires { at < length b.now }
-    ensures { SaysPart (bracketAt deep (drop at b.now)) b.now result }
+    ensures { SaysPart (bracket_at deep (drop at b.now)) b.now result }
 {
     if deep == 0 {
         return Err(Fault::Refused(Refusal { at, why: Why::Deep }));

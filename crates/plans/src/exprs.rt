@@ -1,7 +1,7 @@
 // Expressions: words of 64 bits that are worked out from an event.
 ghost use Rattle.std.specs.Prelude.{◌≡◌};
 ghost use Rattle.streams.specs.Meaning.{word};
-ghost use Rattle.streams.specs.Calls.{fine as fineExpr};
+ghost use Rattle.streams.specs.Calls.{fine as fine_expr};
 ghost use Rattle.plans.specs.Model.{expr_of, as_event};
 ghost use Rattle.plans.specs.Limits.{Spare};
 
@@ -56,7 +56,7 @@ impl Expr {
 
     // Is it within the limit of parts.
     pub fn fine(&self) -> bool
-        ensures { result ≡ fineExpr (expr_of self.now) }
+        ensures { result ≡ fine_expr (expr_of self.now) }
     {
         self.spare(MOST_PARTS).is_some()
     }

@@ -3,7 +3,7 @@
 #![tactic(auto)]
 
 ghost use Rattle.std.specs.Prelude.{◌≡◌, map, IfOk, decimal};
-ghost use Rattle.grammar.specs.Printing.{bond as bondOf, within as withinOf, pair as pair_of, shown as shownOf, is_number_one, is_just_key, is_value, said as said_of, named as named_of, text_of_stage, text_of_stages, printed};
+ghost use Rattle.grammar.specs.Printing.{bond as bond_of, within as within_of, pair as pair_of, shown as shown_of, is_number_one, is_just_key, is_value, said as said_of, named as named_of, text_of_stage, text_of_stages, printed};
 ghost use Rattle.plans.specs.Model.{expr_of, as_sum, stage_of, plan_of};
 ghost use Rattle.print.specs.Wrote.{Wrote};
 
@@ -97,7 +97,7 @@ fn named(aggregate: Aggregate) -> &'static [u8]
 
 // How close an expression binds: a comparison 1, a sum 2, a product 3, what needs no brackets anywhere 4.
 fn bond(e: &Expr) -> u8
-    ensures { result ≡ bondOf (expr_of e.now) }
+    ensures { result ≡ bond_of (expr_of e.now) }
 {
     match e {
         Expr::Less(_, _) => 1,
@@ -118,7 +118,7 @@ fn bond(e: &Expr) -> u8
 // An expression, in brackets if it binds less than `least`.
 #[cycle(pair_shown_within)]
 fn within(least: u8, e: &Expr, out: &mut Vec<u8>) -> Result<(), AllocError>
-    ensures { Wrote out.old.items out.new.items (withinOf least (bondOf (expr_of e.now)) (shownOf (expr_of e.now))) result }
+    ensures { Wrote out.old.items out.new.items (within_of least (bond_of (expr_of e.now)) (shown_of (expr_of e.now))) result }
 {
     if bond(e) >= least {
         return shown(e, out);
@@ -131,7 +131,7 @@ fn within(least: u8, e: &Expr, out: &mut Vec<u8>) -> Result<(), AllocError>
 // An expression, without brackets around it.
 #[cycle(pair_shown_within)]
 fn shown(e: &Expr, out: &mut Vec<u8>) -> Result<(), AllocError>
-    ensures { Wrote out.old.items out.new.items (shownOf (expr_of e.now)) result }
+    ensures { Wrote out.old.items out.new.items (shown_of (expr_of e.now)) result }
 {
     match e {
         Expr::Num(n) => digits(*n, out),
@@ -162,7 +162,7 @@ fn pair(
     b: &Expr,
     out: &mut Vec<u8>,
 ) -> Result<(), AllocError>
-    ensures { Wrote out.old.items out.new.items (pair_of sign (withinOf left (bondOf (expr_of a.now)) (shownOf (expr_of a.now))) (withinOf right (bondOf (expr_of b.now)) (shownOf (expr_of b.now)))) result }
+    ensures { Wrote out.old.items out.new.items (pair_of sign (within_of left (bond_of (expr_of a.now)) (shown_of (expr_of a.now))) (within_of right (bond_of (expr_of b.now)) (shown_of (expr_of b.now)))) result }
 {
     within(left, a, out)?;
     word(&[b' ', sign, b' '], out)?;

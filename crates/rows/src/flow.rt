@@ -2,7 +2,7 @@
 // It requires windows of some size: the caller's plan is within its limits.
 ghost use Rattle.std.specs.Prelude.{◌≡◌, ◌<◌, map};
 ghost use Rattle.book.specs.Due.{Sized};
-ghost use Rattle.book.specs.Flow.{as_event as endedEvent, onward};
+ghost use Rattle.book.specs.Flow.{as_event as ended_event, onward};
 ghost use Rattle.plans.specs.Model.{as_event, stage_of};
 ghost use Rattle.rows.specs.Model.{row_of};
 ghost use Rattle.rows.specs.Flow.{Enters, Goes};
@@ -47,7 +47,7 @@ pub fn row_of(stage: &Stage, number: StageNumber, event: Event) -> Option<Row>
 
 // The event of a row whose window has ended: its time is just before the end.
 fn event_of(row: Row) -> Event
-    ensures { as_event result ≡ endedEvent (row_of row) }
+    ensures { as_event result ≡ ended_event (row_of row) }
 {
     Event {
         time: Time(row.at.end.0.saturating_sub(1)),

@@ -1,7 +1,7 @@
 // Reading the stages of a plan.
 ghost use Rattle.std.specs.Prelude.{◌≡◌, ◌≤◌, [], length, drop};
 ghost use Rattle.streams.specs.Calls.{parts as parts_of};
-ghost use Rattle.grammar.specs.Reading.{part as part_at, window as windowAt, aggregate as aggregateAt, stage as stageAt, stages as stagesAt};
+ghost use Rattle.grammar.specs.Reading.{part as part_at, window as window_at, aggregate as aggregate_at, stage as stage_at, stages as stages_at};
 ghost use Rattle.plans.specs.Model.{expr_of};
 ghost use Rattle.tokens.specs.Says.{SaysNumber};
 ghost use Rattle.formulas.specs.Says.{SaysPart};
@@ -55,7 +55,7 @@ fn part(heap: Global, b: &[u8], at: usize, word: &[u8], left_out: Expr) -> Resul
 
 fn window(b: &[u8], at: usize) -> Result<Number, Fault>
     requires { at ≤ length b.now }
-    ensures { SaysNumber (windowAt (drop at b.now)) b.now result }
+    ensures { SaysNumber (window_at (drop at b.now)) b.now result }
 {
     let place = skip(b, at);
     if !is_word(b, place, b"in") {
@@ -69,7 +69,7 @@ fn window(b: &[u8], at: usize) -> Result<Number, Fault>
 
 fn aggregate(b: &[u8], at: usize) -> Result<Named, Fault>
     requires { at ≤ length b.now }
-    ensures { SaysAggregate (aggregateAt (drop at b.now)) b.now result }
+    ensures { SaysAggregate (aggregate_at (drop at b.now)) b.now result }
 {
     let place = skip(b, at);
     if is_word(b, place, b"count") {
@@ -105,7 +105,7 @@ fn aggregate(b: &[u8], at: usize) -> Result<Named, Fault>
 // The stage at `at`, which is behind its semicolon.
 fn stage(heap: Global, b: &[u8], at: usize) -> Result<Staged, Fault>
     requires { at ≤ length b.now }
-    ensures { SaysStage (stageAt (drop at b.now)) b.now result }
+    ensures { SaysStage (stage_at (drop at b.now)) b.now result }
 {
     let Part {
         expr: keep,
@@ -140,7 +140,7 @@ fn stage(heap: Global, b: &[u8], at: usize) -> Result<Staged, Fault>
 // One stage after the other, to the end of the text.
 pub(crate) fn stages(heap: Global, b: &[u8], at: usize) -> Result<Vec<Stage>, Fault>
     requires { at ≤ length b.now }
-    ensures { SaysStages (stagesAt 8 [] (drop at b.now)) b.now result }
+    ensures { SaysStages (stages_at 8 [] (drop at b.now)) b.now result }
 {
     let mut all = Vec::new(heap);
     let mut place = skip(b, at);

@@ -3,7 +3,7 @@
 #![tactic(auto)]
 
 ghost use Rattle.std.specs.Prelude.{◌≡◌, ◌+◌, ◌<◌, ◌≤◌, true, length, drop};
-ghost use Rattle.grammar.specs.Reading.{blank, letter as letterByte, is as isHere, starts_digit, starts_letter, is_the_word, digits as digitsAt, limited as limitedAt};
+ghost use Rattle.grammar.specs.Reading.{blank, letter as letter_byte, is as is_here, starts_digit, starts_letter, is_the_word, digits as digits_at, limited as limited_at};
 ghost use Rattle.tokens.specs.Says.{Skips, SaysDigits, SaysNumber};
 
 use crate::faults::{Fault, Number};
@@ -32,7 +32,7 @@ fn is_blank(c: u8) -> bool
 
 // Whether the byte at `at` is `c`.
 pub fn is(b: &[u8], at: usize, c: u8) -> bool
-    ensures value { result ≡ isHere c (drop at b.now) }
+    ensures value { result ≡ is_here c (drop at b.now) }
     ensures room { result ≡ true → at < length b.now }
 {
     at < b.len() && b[at] == c
@@ -53,7 +53,7 @@ fn is_letter(b: &[u8], at: usize) -> bool
 }
 
 fn is_alphabetic(c: u8) -> bool
-    ensures { result ≡ letterByte c }
+    ensures { result ≡ letter_byte c }
 {
     c.is_ascii_lowercase() || c.is_ascii_uppercase()
 }
@@ -76,7 +76,7 @@ pub fn is_word(b: &[u8], at: usize, word: &[u8]) -> bool
 // The number whose first digit stands at `at`.
 pub fn digits(b: &[u8], at: usize) -> Result<Number, Fault>
     requires { at ≤ length b.now }
-    ensures { SaysDigits (digitsAt (drop at b.now) 0 (drop at b.now)) b.now result }
+    ensures { SaysDigits (digits_at (drop at b.now) 0 (drop at b.now)) b.now result }
 {
     let mut n: u64 = 0;
     let mut i = at;
@@ -111,7 +111,7 @@ const LONGEST: u64 = MOST_SPAN;
 // The number at `at`, from `low` to 2^40; `why` says what any other is refused for.
 pub fn limited(b: &[u8], at: usize, low: u64, why: Why) -> Result<Number, Fault>
     requires { at ≤ length b.now }
-    ensures { SaysNumber (limitedAt why low (drop at b.now)) b.now result }
+    ensures { SaysNumber (limited_at why low (drop at b.now)) b.now result }
 {
     let start = skip(b, at);
     if !is_digit(b, start) {

@@ -1,6 +1,6 @@
 // The cells of one stage: for each window and key what its values come to so far, by rising ends, then keys.
 ghost use Rattle.std.specs.Prelude.{◌≡◌, ◌&&◌, map, length, nat_lt};
-ghost use Rattle.streams.specs.Meaning.{first as first_of, joined as joinedOf};
+ghost use Rattle.streams.specs.Meaning.{first as first_of, joined as joined_of};
 ghost use Rattle.streams.specs.Order.{Sorted, before};
 ghost use Rattle.plans.specs.Model.{as_sum};
 ghost use Rattle.windows.specs.Model.{cell_of};
@@ -45,7 +45,7 @@ fn first(how: Aggregate, v: Value) -> Value
 
 // One value more.
 fn joined(how: Aggregate, so_far: Value, v: Value) -> Value
-    ensures { result.0 ≡ joinedOf (as_sum how) so_far.0 v.0 }
+    ensures { result.0 ≡ joined_of (as_sum how) so_far.0 v.0 }
 {
     match how {
         Aggregate::Count => Value(so_far.0.wrapping_add(1)),
