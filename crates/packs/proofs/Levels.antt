@@ -1,8 +1,8 @@
 -- Levels of listed segments, counted from the last one on, and the first that is crowded.
-use Rattle.std.proofs.Common.{◌≡◌, ℕ, zero, suc, ◌+◌, ◌-◌, ◌<◌, ◌≤◌, Bool, true, false, cond, eqb, ltb, List, [], ◌∷◌, drop, sym, refl, ap, ◌∙◌, arith}
-use Rattle.std.proofs.lemmas.Bool.{eqb-true, eqb-false, eq-eqb, ne_eqb, lt-ltb, le-ltb}
+use Rattle.std.proofs.Common.{◌≡◌, ℕ, suc, ◌+◌, ◌-◌, ◌<◌, ◌≤◌, List, ◌∷◌, drop, sym, refl, ap, ◌∙◌, arith}
+use Rattle.std.proofs.lemmas.Bool.{eq-eqb, ne_eqb, lt-ltb, le-ltb}
 use Rattle.book.specs.Queue.{Seg}
-use Rattle.book.specs.Due.{at_level, below_level, Crowd, calm, crowded, crowd}
+use Rattle.book.specs.Due.{at_level, below_level, calm, crowded, crowd}
 use Rattle.rows.specs.Table.{listed}
 use Rattle.rows.proofs.Ranges.{drop_listed, drop_none}
 

@@ -1,12 +1,12 @@
 -- Segments from i on, k of them, packed: what the definition does, by the places of listed segments.
-use Rattle.std.proofs.Common.{◌≡◌, ℕ, zero, suc, ◌+◌, ◌-◌, ◌/◌, ◌<◌, ◌≤◌, Bool, true, false, cond, ltb, List, [], ◌∷◌, ◌++◌, length, take, drop, sym, refl, ap, ◌∙◌, arith, length-take, take-take, drop-drop}
+use Rattle.std.proofs.Common.{◌≡◌, ℕ, zero, suc, ◌+◌, ◌-◌, ◌/◌, ◌<◌, ◌≤◌, Bool, cond, List, [], ◌∷◌, ◌++◌, length, take, drop, sym, refl, ap, ◌∙◌, arith, length-take, take-take, drop-drop}
 use lib.Seq.{take-append-le, drop-append-le}
 use Rattle.std.proofs.lemmas.Bool.{lt-ltb, le-ltb}
 use Rattle.std.proofs.lemmas.List.{drop_all}
 use Rattle.streams.specs.Meaning.{less_by}
 use Rattle.streams.proofs.Logs.{less_by_is}
 use Rattle.book.specs.Rows.{Row}
-use Rattle.book.specs.Queue.{Link, nil, page, Seg, IndexPage, Queue, After, pack_by, pack, unpack_by, unpack}
+use Rattle.book.specs.Queue.{Link, nil, page, Seg, IndexPage, pack_by, pack, unpack_by, unpack}
 use Rattle.book.specs.Due.{Sizes, pack_many}
 use Rattle.rows.specs.Table.{listed}
 use Rattle.rows.proofs.Ranges.{length_listed, drop_listed}

@@ -1,4 +1,4 @@
-use Rattle.std.proofs.Common.{◌≡◌, ◌≤◌, drop}
+use Rattle.std.proofs.Common.{◌≡◌, drop}
 use Rattle.book.specs.Due.{crowd}
 use Rattle.segs.specs.Table.{segs_of}
 use Rattle.packs.proofs.crowded.Given as goal
