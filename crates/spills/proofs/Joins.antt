@@ -1,5 +1,5 @@
 -- What the definition makes of rows that are spilled, case by case.
-use Rattle.std.proofs.Common.{◌≡◌, ℕ, zero, suc, ◌+◌, ◌-◌, ◌/◌, ◌<◌, ◌≤◌, Bool, true, false, cond, leb, List, [], ◌∷◌, length, take, drop, sym, refl, ap, ◌∙◌, arith, length-drop}
+use Rattle.std.proofs.Common.{◌≡◌, ℕ, zero, suc, ◌+◌, ◌/◌, ◌<◌, ◌≤◌, Bool, true, false, cond, List, ◌∷◌, length, take, drop, sym, refl, ap, ◌∙◌, arith}
 use Rattle.std.proofs.lemmas.Bool.{le-leb, lt-leb}
 use Rattle.streams.specs.Meaning.{Sum}
 use Rattle.book.specs.Rows.{Row, onto}
@@ -7,7 +7,7 @@ use Rattle.rows.specs.Table.{row_in, listed, rows_of}
 use Rattle.spills.specs.declared.pages.Spilt.{Spilt}
 use Rattle.spills.specs.declared.pages.Spilt.TheVariants.{One, Two}
 use Rattle.spills.specs.Model.{is_only_page, spilt_of, Halves, Few}
-use Rattle.book.specs.Queue.{Link, nil, page, Seg, Page, RowPage, Spilled, split_by, one_page, too_full, merge_by, spill_by}
+use Rattle.book.specs.Queue.{Link, nil, page, Seg, RowPage, split_by, one_page, too_full, merge_by, spill_by}
 
 -- a segment without pages
 pub join_none : (how : ℕ → Sum) (size n : ℕ) (below : Link) (rows moved : List Row) (s : Seg) → one_page n s nil moved ≡ spill_by how size n (RowPage below rows) nil s moved

@@ -1,9 +1,9 @@
 -- Segments by their places: one replaced, one behind another, and the i-th one spilled.
-use Rattle.std.proofs.Common.{◌≡◌, ℕ, zero, suc, ◌+◌, ◌<◌, ◌≤◌, ◌≢◌, List, [], ◌∷◌, ◌++◌, length, take, drop, sym, refl, ap, ◌∙◌, arith, length-take}
+use Rattle.std.proofs.Common.{◌≡◌, ℕ, zero, suc, ◌<◌, ◌≢◌, List, [], ◌∷◌, ◌++◌, length, take, drop, refl, ap, ◌∙◌, arith, length-take}
 use Rattle.streams.specs.Meaning.{Sum}
 use Rattle.book.specs.Rows.{Row}
-use Rattle.book.specs.Queue.{Seg, Page, Spilled, spill_by, spill_at}
-use Rattle.rows.specs.Table.{listed, Put}
+use Rattle.book.specs.Queue.{Seg, Page, spill_by, spill_at}
+use Rattle.rows.specs.Table.{listed}
 use Rattle.rows.proofs.Places.{listed_same}
 use Rattle.rows.proofs.Ranges.{length_listed}
 

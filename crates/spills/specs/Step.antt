@@ -2,7 +2,7 @@
 -- Assumes nothing.
 use Rattle.std.specs.Prelude.{◌≡◌, ℕ, List}
 use Rattle.streams.specs.Meaning.{Sum}
-use Rattle.book.specs.Queue.{Page, After, spill}
+use Rattle.book.specs.Queue.{Page, spill}
 use Rattle.segs.specs.Table.{seg_in}
 use Rattle.queue.specs.declared.Header.{Header}
 use Rattle.queue.specs.Model.{queue_in}
