@@ -3,8 +3,8 @@
 # hand, and on scripts made at random.
 set -u
 cd "$(dirname "$0")/.." || exit 1
-if [ ! -x target/bin/rehearse ] || ! (cd oracle && cargo build --release --offline --quiet --bin compare_rehearse); then
+if [ ! -x crates/rehearse/out/rehearse ] || ! (cd oracle && cargo build --release --offline --quiet --bin compare_rehearse); then
     echo "0 passed, 1 failed"
     exit 1
 fi
-oracle/target/release/compare_rehearse target/bin/rehearse tests/scripts scripts
+oracle/target/release/compare_rehearse crates/rehearse/out/rehearse tests/scripts scripts
