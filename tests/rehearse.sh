@@ -3,7 +3,12 @@
 # hand, and on scripts made at random.
 set -u
 cd "$(dirname "$0")/.." || exit 1
-if [ ! -x crates/rehearse/out/rehearse ] || ! (cd oracle && cargo build --release --offline --quiet --bin compare_rehearse); then
+if ! log=$(cd crates/rehearse && rt run <stdin 2>&1); then
+    echo "$log"
+    echo "0 passed, 1 failed"
+    exit 1
+fi
+if ! (cd oracle && cargo build --release --offline --quiet --bin compare_rehearse); then
     echo "0 passed, 1 failed"
     exit 1
 fi
