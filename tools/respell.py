@@ -1,10 +1,11 @@
 #!/usr/bin/env python3
 """Brings the repository's own definitions and lemmas to one spelling: words in snake case, types in camel case.
 
-Run once, at the top of the repository, after the kit's own port script. It reads which names specs/ and proofs/
-define, and writes each of them anew wherever it stands: in .antt files, in the clauses of .rt files (not in strings),
-in must-fail edits and between backquotes in pages. Names that a proof gets from the kit (goals, lemmas of its
-library) are left. With --dry it only says what would fall together.
+Run once, at the top of a checkout in the older spelling, after the kit's own port script (of a commit that has no tools/, from
+another checkout). It reads which names specs/ and proofs/ define, and writes each of them anew wherever it stands: in .antt
+files, in .rt files and must-fail edits but for their strings, and between backquotes in pages. Names that a proof gets from the
+kit (goals, lemmas of its library) are left. respell.json has the names whose plain respelling stands for something else; some are
+of work that had not landed. Where nothing is in the older spelling it does nothing. With --dry it only says what would fall together.
 """
 import collections
 import glob
@@ -85,7 +86,7 @@ def imported(text):
 
 def aliases(text):
     """Names under which a file brings in another, as in {digits as digitsAt}."""
-    return {name for name in re.findall(r"\bas (" + WORD + r")[,}]", text) if is_old(name)}
+    return {name for name in re.findall(r"\bas (" + WORD + r")(?=[,}\n])", text) if is_old(name)}
 
 
 def turn(text, names, goals=False):
@@ -122,6 +123,9 @@ def main():
     where = defined(antt)
     lemmas = {n for n in where if is_old(n) or n in OTHERWISE}
     names = {n for n in lemmas if is_old(n)}
+    if not names:
+        print("respell: nothing is in the older spelling")
+        return
     for f in own_files("crates/*/src/**/*.rt"):
         FUNCTIONS.update(re.findall(r"\bfn (\w+)", open(f, encoding="utf8").read()))
     texts = {f: open(f, encoding="utf8").read() for f in antt}
@@ -166,13 +170,6 @@ def report(names, texts, where):
     for n in sorted(names):
         if respelt(n) in FUNCTIONS and n != respelt(n):
             print("function:", n, "->", respelt(n), sorted(where[n])[:3])
-    kit = set()
-    cache = "/tmp/kit-words.json"
-    if os.path.exists(cache):
-        kit = set(json.load(open(cache)))
-    for n in sorted(names):
-        if n in kit:
-            print("kit:", n, sorted(where[n])[:3])
 
 
 if __name__ == "__main__":
