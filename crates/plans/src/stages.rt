@@ -1,6 +1,7 @@
 // Stages and plans, and which of them are within the limits.
 ghost use Rattle.std.specs.Prelude.{◌≡◌, ◌^◌, ◌<◌, ◌≤◌, ◌&&◌, map, MatchOption, nat_le, nat_lt};
-ghost use Rattle.streams.specs.Meaning.{end_of, first as first_of};
+ghost use Rattle.streams.specs.Meaning.{end_of, first as first_of, joined as joined_of};
+ghost use Rattle.streams.specs.Laws.{together as together_of};
 ghost use Rattle.streams.specs.Calls.{stage_ok, plan_ok, every};
 ghost use Rattle.plans.specs.Model.{as_sum, stage_of, plan_of};
 
@@ -24,6 +25,24 @@ impl Aggregate {
         match self {
             Aggregate::Count => Value(1),
             Aggregate::Total | Aggregate::Least | Aggregate::Greatest => v,
+        }
+    }
+
+    // One value more than those that came to `so_far`.
+    pub fn joined(self, so_far: Value, v: Value) -> Value
+        ensures { result.0 ≡ joined_of (as_sum self) so_far.0 v.0 }
+    {
+        self.together(so_far, self.first(v))
+    }
+
+    // What two parts of the values come to, each put together before.
+    pub fn together(self, a: Value, b: Value) -> Value
+        ensures { result.0 ≡ together_of (as_sum self) a.0 b.0 }
+    {
+        match self {
+            Aggregate::Count | Aggregate::Total => Value(a.0.wrapping_add(b.0)),
+            Aggregate::Least => a.min(b),
+            Aggregate::Greatest => a.max(b),
         }
     }
 }
@@ -93,10 +112,5 @@ fn within(late: Span, stages: usize) -> bool
 fn all_valid(stages: &[Stage]) -> bool
     ensures { result ≡ every stage_ok (map stage_of stages.now) }
 {
-    for stage in stages {
-        if !stage.valid() {
-            return false;
-        }
-    }
-    true
+    stages.iter().all(|stage| stage.valid())
 }
