@@ -1,4 +1,3 @@
+mod Slots
 mod Loops
 mod Stage
-mod Table
-mod Values

@@ -1,19 +1,19 @@
 // Events through the stages of a plan: what comes out.
-ghost use Rattle.std.specs.Prelude.{◌≡◌, ◌^◌, ◌<◌, ◌≤◌, true, map, MatchOption};
-ghost use Rattle.streams.specs.Meaning.{end_of, as_events, through_stages};
+ghost use Rattle.std.specs.Prelude.{◌≡◌, ◌<◌, true, map};
+ghost use Rattle.streams.specs.Meaning.{as_events, through_stages};
 ghost use Rattle.streams.specs.Calls.{every, stage_ok};
-ghost use Rattle.streams.specs.Order.{Sorted};
 ghost use Rattle.plans.specs.Model.{as_event, stage_of, plan_of};
 ghost use Rattle.windows.specs.declared.stages.Fault.TheVariants.{Memory};
-ghost use Rattle.windows.specs.Model.{cell_of, logs_of};
+ghost use Rattle.windows.specs.Model.{cells_of, logs_of};
 ghost use Rattle.windows.specs.Results.{events as events_in, Absorbed, Gives, Through, Gathered, Outcome};
 
-use crate::cells::{Cell, add};
+use crate::cells::{Cells, Slot, add};
 use crate::logs::{append_in_time, watermark};
 use plans::entries::{Entry, Event};
 use plans::numbers::{Key, Span, Time, Value};
 use plans::stages::{Plan, Stage};
 use std::alloc::{AllocError, AllocFailed, Global};
+use std::collections::BTreeMap;
 use streams::has_ended;
 
 // Why nothing is worked out.
@@ -41,36 +41,22 @@ impl<T: Drop> From<AllocFailed<T>> for Fault {
     }
 }
 
-// The end of the window that an event of this time is in: the next multiple of the size above it.
-// None where it is beyond 64 bits; such a window never ends.
-fn window_end(size: Span, t: Time) -> Option<Time>
-    requires { 0 < size.0 }
-    ensures { MatchOption result (2 ^ 64 ≤ end_of size.0 t.0) (λ e. e.0 ≡ end_of size.0 t.0) }
-{
-    let windows = (t.0 / size.0).checked_add(1)?;
-    let end = windows.checked_mul(size.0)?;
-    Some(Time(end))
-}
-
 // One event into the cells of a stage, if it is kept and its window has ended.
-fn absorb(cells: &mut Vec<Cell>, stage: &Stage, mark: Time, event: Event) -> Result<(), Fault>
-    requires sized { 0 < stage.now.size.0 }
-    requires sorted { Sorted (map cell_of cells.old.items) }
-    ensures { Absorbed (stage_of stage.now) mark.0 (as_event event) (map cell_of cells.old.items) (map cell_of cells.new.items) result }
+fn absorb(cells: &mut Cells, stage: &Stage, mark: Time, event: Event) -> Result<(), Fault>
+    requires { 0 < stage.now.size.0 }
+    ensures { Absorbed (stage_of stage.now) mark.0 (as_event event) (cells_of cells.old) (cells_of cells.new) result }
 {
     if stage.keep.eval(event) == 0 {
         return Ok(());
     }
-    let Some(end) = window_end(stage.size, event.time) else {
-        return Ok(());
-    };
-    if !has_ended(end.0, mark.0) {
-        return Ok(());
+    match stage.window_end(event.time) {
+        Some(end) if has_ended(end.0, mark.0) => {
+            let key = Key(stage.key.eval(event));
+            let value = Value(stage.value.eval(event));
+            Ok(add(cells, stage.aggregate, Slot { end, key }, value)?)
+        }
+        _ => Ok(()),
     }
-    let key = Key(stage.key.eval(event));
-    let value = Value(stage.value.eval(event));
-    add(cells, stage.aggregate, end, key, value)?;
-    Ok(())
 }
 
 // What comes of events by one stage: an event for each cell whose window has ended, with the time just before its end.
@@ -78,26 +64,22 @@ fn through(heap: Global, stage: &Stage, mark: Time, events: &[Event]) -> Result<
     requires { 0 < stage.now.size.0 }
     ensures { Through (stage_of stage.now) mark.0 (map as_event events.now) result }
 {
-    let mut cells = Vec::new(heap);
+    let mut cells = BTreeMap::new(heap);
     for event in events {
         absorb(&mut cells, stage, mark, *event)?;
     }
     events_of(heap, &cells)
 }
 
-fn events_of(heap: Global, cells: &[Cell]) -> Result<Vec<Event>, Fault>
-    ensures { Gives (as_events (map cell_of cells.now)) result }
+fn events_of(heap: Global, cells: &Cells) -> Result<Vec<Event>, Fault>
+    ensures { Gives (as_events (cells_of cells.now)) result }
 {
-    let mut events = Vec::new(heap);
-    for cell in cells {
-        let time = Time(cell.end.0.saturating_sub(1));
-        events.push(Event {
-            time,
-            key: cell.key,
-            value: cell.value,
-        })?;
-    }
-    Ok(events)
+    let events = cells.iter().map(|(slot, value)| Event {
+        time: Time(slot.end.0.saturating_sub(1)),
+        key: slot.key,
+        value: *value,
+    });
+    Ok(events.collect(heap)?)
 }
 
 fn gather(heap: Global, late: Span, logs: &[Vec<Entry>]) -> Result<Vec<Event>, Fault>

@@ -1,12 +1,12 @@
+use Rattle.std.proofs.Common.{rules, sym, ◌∙◌}
 use Rattle.plans.specs.Model.{as_sum}
-use Rattle.std.proofs.Common.{vec_items}
-use Rattle.windows.proofs.Table.{add_new_if, add_same}
+use Rattle.windows.proofs.Slots.{grown_into}
 use Rattle.windows.proofs.cells.add.Goals as goal
 
-pub returns-then-holds : goal.returns-then-holds
-returns-then-holds c =
-    add_same (as_sum c.args.how) c.args.value.0 (vec_items c.args.cells.now) _ _ (rw c.deref.ensures.value at c.find-at.ensures) _ c.index.ensures c.joined-value.ensures (rw c.deref-2.ensures.value at c.if-holds.ensures)
+pub returns-in-Occupied : goal.returns-in-Occupied
+returns-in-Occupied c =
+    let k = sym (rw c.in-Occupied.is at c.in_ok-cell.ensures.value) ∙ c.get-so_far.ensures in
+    search (rules, grown_into (as_sum c.args.how) c.args.slot c.args.value.0 c.joined.result _ c.in_ok-cell.ensures.ordered (rw k c.joined.ensures))
 
-pub returns : goal.returns
-returns c =
-    add_new_if (as_sum c.args.how) c.args.value.0 (vec_items c.args.cells.now) _ _ (rw c.deref.ensures.value at c.find-at.ensures) _ _ c.insert.ensures.items c.first-value.ensures (rw c.deref-2.ensures.value at c.if-holds.ensures)
+pub returns-in-Vacant : goal.returns-in-Vacant
+returns-in-Vacant c = search (rules, grown_into)

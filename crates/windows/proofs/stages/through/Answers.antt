@@ -1,17 +1,14 @@
 use Rattle.streams.specs.Meaning.{cells, ended}
 use Rattle.plans.specs.Model.{stage_of}
-use Rattle.windows.proofs.Stage.{cells_sorted, cells_more, all_through}
+use Rattle.windows.proofs.Stage.{cells_more, all_through}
 use Rattle.windows.proofs.stages.through.Goals as goal
-
-pub absorb-requires : goal.absorb-requires
-absorb-requires c = record { sized = c.requires; sorted = cells_sorted (stage_of c.args.stage.now) c.args.mark.0 c.args.events.now _ _ c.loop-event.invariant }
 
 pub loop-event-preserved : goal.loop-event-preserved
 loop-event-preserved c = cells_more (stage_of c.args.stage.now) c.args.mark.0 c.args.events.now _ _ _ _ c.loop-event-test.true c.loop-event.invariant c.in_ok-absorb.ensures
 
 pub loop-event-init : goal.loop-event-init
 unfolding cells ended
-loop-event-init c = rw c.new-cells.ensures.items
+loop-event-init c = rw c.new-cells.ensures.empty
 
 pub returns : goal.returns
-returns c = rw (c.deref.ensures.value, all_through (stage_of c.args.stage.now) c.args.mark.0 c.args.events.now _ _ c.loop-event-test.false c.loop-event.invariant) at c.events_of.ensures
+returns c = rw (all_through (stage_of c.args.stage.now) c.args.mark.0 c.args.events.now _ _ c.loop-event-test.false c.loop-event.invariant) at c.events_of.ensures
