@@ -7,39 +7,13 @@ ghost use Rattle.plan.specs.Lines.{NoLineEnd};
 
 use grammar::refusals::Refusal;
 use print::print;
-use std::alloc::{AllocError, AllocFailed};
 use std::io::{Read, Write};
 use std::process::ExitCode;
 use std::{env, fs, io};
+use stops::Stop;
 use text::places::locate;
 use text::reader::read;
 use tokens::faults::Fault;
-
-// Why the program ends with status 1.
-#[derive(Drop)]
-enum Stop {
-    Said,
-    Memory,
-    Io(io::Error),
-}
-
-impl From<io::Error> for Stop {
-    fn from(e: io::Error) -> Stop {
-        Stop::Io(e)
-    }
-}
-
-impl From<AllocError> for Stop {
-    fn from(_e: AllocError) -> Stop {
-        Stop::Memory
-    }
-}
-
-impl<T: Drop> From<AllocFailed<T>> for Stop {
-    fn from(_e: AllocFailed<T>) -> Stop {
-        Stop::Memory
-    }
-}
 
 fn main(rt: HostRuntime) -> ExitCode {
     let Err(stop) = run(&rt) else {
@@ -52,10 +26,9 @@ fn main(rt: HostRuntime) -> ExitCode {
 
 // What was not said yet of why the program ends.
 fn tell(rt: &HostRuntime, stop: &Stop) -> io::Result<()> {
-    match stop {
-        Stop::Memory => eprintln!(rt; "plan: no memory"),
-        Stop::Io(_) => eprintln!(rt; "plan: reading or writing failed"),
-        Stop::Said => Ok(()),
+    match stop.unsaid() {
+        Some(why) => eprintln!(rt; "plan: {why}"),
+        None => Ok(()),
     }
 }
 
@@ -76,7 +49,8 @@ fn run(rt: &HostRuntime) -> Result<(), Stop> {
     }
 }
 
-// The bytes of the file that the first argument names, or of standard input.
+// The bytes of the file that the first argument names, or of standard input. The program `rehearse` has the same: what is
+// read from outside has no contract that could pin it, so it is no library's function.
 fn input(rt: &HostRuntime) -> Result<Vec<u8>, Stop> {
     let mut names = env::args(rt)?.skip(1);
     if let Some(name) = names.next() {
@@ -113,11 +87,8 @@ fn begin_of_line(bytes: &[u8], at: usize) -> usize
     ensures line { NoLineEnd bytes.now result at }
     ensures first { 0 < result → slice_index bytes.now (result - 1) ≡ 10 }
 {
-    let mut i = at;
-    while i > 0 && bytes[i - 1] != b'\n' {
-        i -= 1;
-    }
-    i
+    let line_end = bytes[..at].iter().rposition(|c| *c == b'\n');
+    line_end.map_or(0, |i| i + 1)
 }
 
 // Where the line of the place `at` ends, before its line end.
@@ -128,9 +99,6 @@ fn end_of_line(bytes: &[u8], at: usize) -> usize
     ensures line { NoLineEnd bytes.now at result }
     ensures last { result < length bytes.now → slice_index bytes.now result ≡ 10 }
 {
-    let mut i = at;
-    while i < bytes.len() && bytes[i] != b'\n' {
-        i += 1;
-    }
-    i
+    let line_end = bytes[at..].iter().position(|c| *c == b'\n');
+    line_end.map_or(bytes.len(), |i| at + i)
 }

@@ -2,8 +2,6 @@
 // input, and prints what came out. A line that is wrong is named with its number, and the rest goes on.
 #![tactic(auto)]
 
-ghost use Rattle.std.specs.Prelude.{◌≤◌, length};
-
 use calls::kinds::{Call, Refusal};
 use calls::refusals::{number, refusal};
 use grammar::refusals::Refusal as TextRefusal;
@@ -12,52 +10,19 @@ use plans::entries::{Entry, Event};
 use plans::numbers::{LogNumber, Place};
 use scripts::commands::Command;
 use scripts::reading::parse;
-use std::alloc::{AllocError, AllocFailed, Global};
+use std::alloc::Global;
 use std::io::Read;
 use std::process::ExitCode;
 use std::str::from_utf8;
 use std::{env, fs, io};
+use stops::Stop;
 use text::places::locate;
 use text::reader::read;
 use tokens::faults::Fault;
-use windows::stages::Fault as Unworked;
 
 // The plan if the script names none: events of a tenth of a second counted by key, and of the counts of a second the
 // greatest.
 const PLAN: &[u8; 45] = b"late 10; in 100 count; key 0 in 1000 greatest";
-
-// Why the program ends with status 1.
-#[derive(Drop)]
-enum Stop {
-    Said,
-    Memory,
-    Io(io::Error),
-}
-
-impl From<io::Error> for Stop {
-    fn from(e: io::Error) -> Stop {
-        Stop::Io(e)
-    }
-}
-
-impl From<AllocError> for Stop {
-    fn from(_e: AllocError) -> Stop {
-        Stop::Memory
-    }
-}
-
-impl<T: Drop> From<AllocFailed<T>> for Stop {
-    fn from(_e: AllocFailed<T>) -> Stop {
-        Stop::Memory
-    }
-}
-
-// Plans that are read are within their limits, so that only memory can be wanting.
-impl From<Unworked> for Stop {
-    fn from(_e: Unworked) -> Stop {
-        Stop::Memory
-    }
-}
 
 // A script as far as it was played.
 #[derive(Drop)]
@@ -81,29 +46,23 @@ fn main(rt: HostRuntime) -> ExitCode {
 
 // What was not said yet of why the program ends.
 fn tell(rt: &HostRuntime, stop: &Stop) -> io::Result<()> {
-    match stop {
-        Stop::Memory => eprintln!(rt; "rehearse: no memory"),
-        Stop::Io(_) => eprintln!(rt; "rehearse: reading or writing failed"),
-        Stop::Said => Ok(()),
+    match stop.unsaid() {
+        Some(why) => eprintln!(rt; "rehearse: {why}"),
+        None => Ok(()),
     }
 }
 
 fn run(rt: &HostRuntime) -> Result<(), Stop> {
     let script = input(rt)?;
     let mut play = begin(rt.alloc())?;
-    let mut rest = script.as_slice();
-    for at in 1..u64::MAX {
-        if rest.is_empty() {
-            break;
-        }
-        let end = line_end(rest);
-        play.line(rt, at, &rest[0..end])?;
-        rest = behind(rest, end);
+    for (at, line) in (1..u64::MAX).zip(script.as_slice().split(|c| *c == b'\n')) {
+        play.line(rt, at, line)?;
     }
     Ok(())
 }
 
-// The bytes of the file that the first argument names, or of standard input.
+// The bytes of the file that the first argument names, or of standard input. The program `plan` has the same: what is read
+// from outside has no contract that could pin it, so it is no library's function.
 fn input(rt: &HostRuntime) -> Result<Vec<u8>, Stop> {
     let mut names = env::args(rt)?.skip(1);
     if let Some(name) = names.next() {
@@ -115,35 +74,13 @@ fn input(rt: &HostRuntime) -> Result<Vec<u8>, Stop> {
 }
 
 fn begin(heap: Global) -> Result<Play, Stop> {
-    let Ok(plan) = read(heap, PLAN) else {
-        return Err(Stop::Memory);
-    };
+    let plan = read(heap, PLAN).map_err(|_| Stop::Memory)?;
     Ok(Play {
         text: Vec::from_slice(heap, PLAN)?,
         logs: 1,
         keeper: Keeper::begin(heap, plan, 1)?,
         called: false,
     })
-}
-
-// Where the first line ends, before its line end.
-fn line_end(bytes: &[u8]) -> usize
-    ensures { result ≤ length bytes.now }
-{
-    let mut i = 0;
-    while i < bytes.len() && bytes[i] != b'\n' {
-        i += 1;
-    }
-    i
-}
-
-// What stands behind the line end at `end`.
-fn behind(bytes: &[u8], end: usize) -> &[u8] {
-    if end < bytes.len() {
-        &bytes[end + 1..]
-    } else {
-        &bytes[0..0]
-    }
 }
 
 impl Play {
@@ -165,12 +102,18 @@ impl Play {
     // plan TEXT
     fn plan(&mut self, rt: &HostRuntime, at: u64, line: &[u8], from: usize) -> Result<(), Stop> {
         let text = &line[from.min(line.len())..];
-        if let Some(refusal) = self.begin(rt, at, text)? {
-            let column = refusal.at.saturating_add(from).saturating_add(1);
-            let why = refusal.why;
-            println!(rt; "line {at}, column {column}: {why}")?;
+        if self.called {
+            return too_late(rt, at);
         }
-        Ok(())
+        match self.begin(rt.alloc(), text) {
+            Ok(()) => Ok(()),
+            Err(Fault::Memory) => Err(Stop::Memory),
+            Err(Fault::Refused(refusal)) => {
+                let column = refusal.at.saturating_add(from).saturating_add(1);
+                let why = refusal.why;
+                Ok(println!(rt; "line {at}, column {column}: {why}")?)
+            }
+        }
     }
 
     // plan-file NAME
@@ -183,41 +126,31 @@ impl Play {
     ) -> Result<(), Stop> {
         let name = line[from.min(line.len())..].trim_ascii();
         let Ok(name) = from_utf8(name) else {
-            println!(rt; "line {at}: the plan's file cannot be read")?;
-            return Ok(());
+            return unreadable(rt, at);
         };
         let Ok(text) = fs::read(rt, name) else {
-            println!(rt; "line {at}: the plan's file cannot be read")?;
-            return Ok(());
+            return unreadable(rt, at);
         };
-        if let Some(refusal) = self.begin(rt, at, text.as_slice())? {
-            let place = locate(text.as_slice(), refusal.at);
-            let (row, column, why) = (place.line, place.column, refusal.why);
-            println!(rt; "line {at}: {name}, line {row}, column {column}: {why}")?;
+        if self.called {
+            return too_late(rt, at);
         }
-        Ok(())
+        match self.begin(rt.alloc(), text.as_slice()) {
+            Ok(()) => Ok(()),
+            Err(Fault::Memory) => Err(Stop::Memory),
+            Err(Fault::Refused(refusal)) => {
+                let place = locate(text.as_slice(), refusal.at);
+                let (row, column, why) = (place.line, place.column, refusal.why);
+                Ok(println!(rt; "line {at}: {name}, line {row}, column {column}: {why}")?)
+            }
+        }
     }
 
-    // Begins anew with the plan that the text is; what it is refused for is handed back, and changes nothing.
-    fn begin(
-        &mut self,
-        rt: &HostRuntime,
-        at: u64,
-        text: &[u8],
-    ) -> Result<Option<TextRefusal>, Stop> {
-        if self.called {
-            println!(rt; "line {at}: a plan comes before the first call")?;
-            return Ok(None);
-        }
-        match read(rt.alloc(), text) {
-            Ok(plan) => {
-                self.keeper = Keeper::begin(rt.alloc(), plan, self.logs)?;
-                self.text = Vec::from_slice(rt.alloc(), text)?;
-                Ok(None)
-            }
-            Err(Fault::Memory) => Err(Stop::Memory),
-            Err(Fault::Refused(refusal)) => Ok(Some(refusal)),
-        }
+    // Begins anew with the plan that the text is. Where it is none, nothing changes.
+    fn begin(&mut self, heap: Global, text: &[u8]) -> Result<(), Fault> {
+        let plan = read(heap, text)?;
+        self.keeper = Keeper::begin(heap, plan, self.logs)?;
+        self.text = Vec::from_slice(heap, text)?;
+        Ok(())
     }
 
     // logs N
@@ -226,26 +159,24 @@ impl Play {
             println!(rt; "line {at}: logs are counted before the first call")?;
             return Ok(());
         }
-        if count == 0 || count > 256 {
+        let Ok(count @ 1..=256) = u16::try_from(count) else {
             println!(rt; "line {at}: there are 1 to 256 logs")?;
             return Ok(());
-        }
-        let Ok(plan) = read(rt.alloc(), self.text.as_slice()) else {
-            return Err(Stop::Memory);
         };
-        self.logs = count as u16;
-        self.keeper = Keeper::begin(rt.alloc(), plan, self.logs)?;
+        let plan = read(rt.alloc(), self.text.as_slice()).map_err(|_| Stop::Memory)?;
+        self.keeper = Keeper::begin(rt.alloc(), plan, count)?;
+        self.logs = count;
         Ok(())
     }
 
     // put L T K V, still L T
     fn put(&mut self, rt: &HostRuntime, at: u64, log: u64, entry: Entry) -> Result<(), Stop> {
         self.called = true;
-        if log > 255 {
+        let Ok(log) = u8::try_from(log) else {
             println!(rt; "line {at}: a log is 0 to 255")?;
             return Ok(());
-        }
-        if let Some(why) = self.keeper.put(LogNumber(log as u8), entry)? {
+        };
+        if let Some(why) = self.keeper.put(LogNumber(log), entry)? {
             refuse(rt, at, why)?;
         }
         Ok(())
@@ -254,16 +185,18 @@ impl Play {
     // out: all that came out
     fn all(&mut self, rt: &HostRuntime) -> Result<(), Stop> {
         self.called = true;
-        let mut from = 0u64;
-        for _ in 0..u64::MAX {
-            let Ok(part) = self.keeper.out(rt.alloc(), Place(from), MOST)? else {
+        for from in (0..u64::MAX).step_by(usize::from(MOST)) {
+            let Ok(part) = self
+                .keeper
+                .out(rt.alloc(), Place(from), MOST)
+                .map_err(|_| Stop::Memory)?
+            else {
                 return Ok(());
             };
             print_events(rt, from, part.as_slice())?;
-            if part.len() < MOST as usize {
+            if part.len() < usize::from(MOST) {
                 break;
             }
-            from = from.saturating_add(part.len() as u64);
         }
         Ok(())
     }
@@ -271,11 +204,15 @@ impl Play {
     // out FROM MOST
     fn out(&mut self, rt: &HostRuntime, at: u64, from: u64, most: u64) -> Result<(), Stop> {
         self.called = true;
-        if most > 65535 {
+        let Ok(most) = u16::try_from(most) else {
             println!(rt; "line {at}: at most 65535 are asked for")?;
             return Ok(());
-        }
-        match self.keeper.out(rt.alloc(), Place(from), most as u16)? {
+        };
+        match self
+            .keeper
+            .out(rt.alloc(), Place(from), most)
+            .map_err(|_| Stop::Memory)?
+        {
             Ok(part) => print_events(rt, from, part.as_slice())?,
             Err(why) => refuse(rt, at, why)?,
         }
@@ -302,15 +239,19 @@ const MOST: u16 = 1024;
 
 // Each event on a line: its place, time, key and value.
 fn print_events(rt: &HostRuntime, from: u64, events: &[Event]) -> Result<(), Stop> {
-    let mut place = from;
-    for event in events {
-        let time = event.time.0;
-        let key = event.key.0;
-        let value = event.value.0;
-        println!(rt; "{place}: {time} {key} {value}")?;
-        place = place.saturating_add(1);
+    for (place, event) in (from..=u64::MAX).zip(events) {
+        let Event { time, key, value } = *event;
+        println!(rt; "{place}: {} {} {}", time.0, key.0, value.0)?;
     }
     Ok(())
+}
+
+fn too_late(rt: &HostRuntime, at: u64) -> Result<(), Stop> {
+    Ok(println!(rt; "line {at}: a plan comes before the first call")?)
+}
+
+fn unreadable(rt: &HostRuntime, at: u64) -> Result<(), Stop> {
+    Ok(println!(rt; "line {at}: the plan's file cannot be read")?)
 }
 
 // A call that is refused, with the number of the refusal.
