@@ -2,73 +2,92 @@
 // written into a lent one.
 #![tactic(auto)]
 
-ghost use Rattle.std.specs.Prelude.{◌≡◌, ◌+◌, ◌<◌, ◌≤◌, ◌++◌, length, take, drop, MatchOption};
+ghost use Rattle.std.specs.Prelude.{◌≡◌, ℕ, ◌+◌, ◌≤◌, ◌<◌, List, ◌++◌, length, take, drop, MatchOption};
+ghost use Rattle.std.proofs.Common.{rules};
 ghost use Rattle.octets.specs.Form.{two, four, eight};
 
-// The number in the first two bytes, and what stands behind them.
-pub fn two_from(bytes: &[u8]) -> Option<(u16, &[u8])>
-    ensures { MatchOption result (length bytes.now < 2) (λ p. bytes.now ≡ two p.0 ++ p.1.now) }
-{
-    let [a, b, rest @ ..] = bytes else {
-        return None;
-    };
-    Some((u16::from_be_bytes([*a, *b]), rest))
+// A type of numbers that have N bytes each, high byte first.
+pub trait Octets<const N: usize>: Copy {
+    ghost form: { Self → List ℕ };
+
+    fn from_octets(bytes: &[u8; N]) -> Self
+        ensures { form result ≡ bytes.now };
+
+    fn octets(self) -> [u8; N]
+        ensures { result ≡ form self };
+
+    ghost few: { N ≤ 8 };
 }
 
-// The number in the first four bytes, and what stands behind them.
-pub fn four_from(bytes: &[u8]) -> Option<(u32, &[u8])>
-    ensures { MatchOption result (length bytes.now < 4) (λ p. bytes.now ≡ four p.0 ++ p.1.now) }
-{
-    let [a, b, c, d, rest @ ..] = bytes else {
-        return None;
-    };
-    Some((u32::from_be_bytes([*a, *b, *c, *d]), rest))
+impl Octets<2> for u16 {
+    ghost form = { two };
+
+    fn from_octets(bytes: &[u8; 2]) -> u16 {
+        u16::from_be_bytes(*bytes)
+    }
+
+    ghost few = { Prim.search rules };
+
+    fn octets(self) -> [u8; 2] {
+        u16::to_be_bytes(self)
+    }
 }
 
-// The number in the first eight bytes, and what stands behind them.
-pub fn eight_from(bytes: &[u8]) -> Option<(u64, &[u8])>
-    ensures { MatchOption result (length bytes.now < 8) (λ p. bytes.now ≡ eight p.0 ++ p.1.now) }
-{
-    let [a, b, c, d, e, f, g, h, rest @ ..] = bytes else {
-        return None;
-    };
-    Some((u64::from_be_bytes([*a, *b, *c, *d, *e, *f, *g, *h]), rest))
+impl Octets<4> for u32 {
+    ghost form = { four };
+
+    fn from_octets(bytes: &[u8; 4]) -> u32 {
+        u32::from_be_bytes(*bytes)
+    }
+
+    ghost few = { Prim.search rules };
+
+    fn octets(self) -> [u8; 4] {
+        u32::to_be_bytes(self)
+    }
 }
 
-// Each of these writes bytes over those of `out` from `at` on. Callers have found room for the whole of what they
-// write, so it is asked for instead of refused half-way.
-pub fn write_two(out: &mut [u8], at: usize, n: u16)
-    requires { at + 2 ≤ length out.old }
-    ensures wrote { take (at + 2) out.new ≡ take at out.old ++ two n }
-    ensures kept { drop (at + 2) out.new ≡ drop (at + 2) out.old }
-{
-    let bytes = n.to_be_bytes();
-    out[at..at + 2].copy_from_slice(&bytes);
+impl Octets<8> for u64 {
+    ghost form = { eight };
+
+    fn from_octets(bytes: &[u8; 8]) -> u64 {
+        u64::from_be_bytes(*bytes)
+    }
+
+    ghost few = { Prim.search rules };
+
+    fn octets(self) -> [u8; 8] {
+        u64::to_be_bytes(self)
+    }
 }
 
-pub fn write_four(out: &mut [u8], at: usize, n: u32)
-    requires { at + 4 ≤ length out.old }
-    ensures wrote { take (at + 4) out.new ≡ take at out.old ++ four n }
-    ensures kept { drop (at + 4) out.new ≡ drop (at + 4) out.old }
+// The number at the front of some bytes, and what stands behind it.
+pub fn number_from<T: Octets<N>, const N: usize>(bytes: &[u8]) -> Option<(T, &[u8])>
+    ensures { MatchOption result (length bytes.now < N) (λ p. bytes.now ≡ T.form p.0 ++ p.1.now) }
 {
-    let bytes = n.to_be_bytes();
-    out[at..at + 4].copy_from_slice(&bytes);
+    let (first, rest) = bytes.split_first_chunk::<N>()?;
+    Some((T::from_octets(first), rest))
 }
 
-pub fn write_eight(out: &mut [u8], at: usize, n: u64)
-    requires { at + 8 ≤ length out.old }
-    ensures wrote { take (at + 8) out.new ≡ take at out.old ++ eight n }
-    ensures kept { drop (at + 8) out.new ≡ drop (at + 8) out.old }
+// Both of these write bytes over those of `out` from `at` on, and say where they end. Callers have found room for the
+// whole of what they write, so it is asked for instead of refused half-way.
+pub fn write_number<T: Octets<N>, const N: usize>(out: &mut [u8], at: usize, n: T) -> usize
+    requires { at + N ≤ length out.old }
+    ensures ends { result ≡ at + N }
+    ensures wrote { take result out.new ≡ take at out.old ++ T.form n }
+    ensures kept { drop result out.new ≡ drop result out.old }
 {
-    let bytes = n.to_be_bytes();
-    out[at..at + 8].copy_from_slice(&bytes);
+    write_bytes(out, at, &n.octets())
 }
 
-pub fn write_bytes(out: &mut [u8], at: usize, part: &[u8])
+#[tactic(auto, using(std::proofs::lemmas::Slice::overwrites))]
+pub fn write_bytes(out: &mut [u8], at: usize, part: &[u8]) -> usize
     requires { at + length part.now ≤ length out.old }
-    ensures wrote { take (at + length part.now) out.new ≡ take at out.old ++ part.now }
-    ensures kept { drop (at + length part.now) out.new ≡ drop (at + length part.now) out.old }
+    ensures ends { result ≡ at + length part.now }
+    ensures wrote { take result out.new ≡ take at out.old ++ part.now }
+    ensures kept { drop result out.new ≡ drop result out.old }
 {
     let end = at + part.len();
     out[at..end].copy_from_slice(part);
+    end
 }
