@@ -1,7 +1,6 @@
 -- What may be answered to a call, as far as the call itself says it. Assumes nothing.
-use Rattle.std.proofs.Common.{◌≡◌, ℕ, ◌<◌, ◌≤◌, Bool, true, false, cond, not, ◌&&◌, T, ltb, leb, length, Some, None, Option, sym, refl, subst, arith}
-use Rattle.std.proofs.lemmas.Bool.{ltb-true, ltb-false, leb-true, leb-false, lt-ltb, cond_both}
-use Rattle.std.specs.Option.{option_or}
+use Rattle.std.proofs.Common.{◌≡◌, ℕ, ◌<◌, ◌≤◌, Bool, true, false, not, ◌&&◌, T, ltb, length, Ok, Err, Result, sym, refl, subst, arith}
+use Rattle.std.proofs.lemmas.Bool.{lt-ltb}
 use Rattle.streams.specs.Meaning.{Event, Plan, Entry, Ev, Still, top}
 use Rattle.streams.specs.Calls as spec
 use Rattle.streams.specs.Calls.{Reply, No, State, Answers, core, small, entry_ok, put, bad_put, no_log, full, outs, too_many, gone, drop, no_drop, not_yet}
@@ -88,41 +87,32 @@ module _ (p : Plan) (room : ℕ) where
   unbuilt (no_drop n s can gt) = absurd can
   unbuilt (not_yet c s un) = (refl, refl)
 
-pub of_drop : (b : Place) (logs : ℕ) → Refuses (Drop b) logs (Some NotBuilt)
+pub of_drop : (b : Place) (logs : ℕ) → Refuses (Drop b) logs (Err NotBuilt)
 unfolding core
 of_drop b logs p room s h = (not_yet (spec.Drop b.0) s (λ t. t), λ a t r. unbuilt p room r)
 
 module _ (l : LogNumber) (e : code.Entry) (logs : ℕ) where
-  invalid : entry_ok (entry_of e) ≡ false → Refuses (Put l e) logs (Some Invalid)
+  pub invalid : entry_ok (entry_of e) ≡ false → Refuses (Put l e) logs (Err Invalid)
   unfolding core
   invalid b p room s h = (bad_put l.0 (entry_of e) s tt (fails _ b), λ a t r. bad p room b r)
 
-  no_such_log : entry_ok (entry_of e) ≡ true → logs ≤ l.0 → Refuses (Put l e) logs (Some NoLog)
+  pub no_such_log : entry_ok (entry_of e) ≡ true → logs ≤ l.0 → Refuses (Put l e) logs (Err NoLog)
   unfolding core
   no_such_log g le p room s h = (no_log l.0 (entry_of e) s tt (held _ g) (omega arith), λ a t r. beyond p room g (omega arith) r)
 
-  taken : entry_ok (entry_of e) ≡ true → l.0 < logs → Refuses (Put l e) logs None
+  pub taken : (u : Unit) → entry_ok (entry_of e) ≡ true → l.0 < logs → Refuses (Put l e) logs (Ok u)
   unfolding core
-  taken g lt p room s h z = ((_, _, put l.0 (entry_of e) s tt (held _ g) (omega arith)), λ a t r. within p room g (omega arith) r)
-
-  -- of a put: that the entry is not valid, then that there is no such log
-  pub of_put : Refuses (Put l e) logs (option_or (cond (entry_ok (entry_of e)) None (Some Invalid)) (cond (ltb l.0 logs) None (Some NoLog)))
-  of_put =
-      cond_both (entry_ok (entry_of e)) None (Some Invalid) (λ o. Refuses (Put l e) logs (option_or o (cond (ltb l.0 logs) None (Some NoLog))))
-      (λ g. cond_both (ltb l.0 logs) None (Some NoLog) (λ o. Refuses (Put l e) logs o) (λ h. taken g (ltb-true _ _ h)) (λ h. no_such_log g (ltb-false _ _ h))) invalid
+  taken u g lt p room s h z = ((_, _, put l.0 (entry_of e) s tt (held _ g) (omega arith)), λ a t r. within p room g (omega arith) r)
 
 module _ (f : Place) (m logs : ℕ) where
-  many_asked : 1024 < m → Refuses (Out f m) logs (Some Invalid)
+  pub many_asked : 1024 < m → Refuses (Out f m) logs (Err Invalid)
   unfolding core
   many_asked gt p room s h = (too_many f.0 m s tt gt, λ a t r. many p room gt r)
 
-  few_asked : m ≤ 1024 → Refuses (Out f m) logs None
+  pub few_asked : (u : Unit) → m ≤ 1024 → Refuses (Out f m) logs (Ok u)
   unfolding core
-  few_asked le p room s h z = ((_, _, outs f.0 m 0 s tt le (omega arith) (omega arith)), λ a t r. few p room le z r)
+  few_asked u le p room s h z = ((_, _, outs f.0 m 0 s tt le (omega arith) (omega arith)), λ a t r. few p room le z r)
 
-  pub of_out : Refuses (Out f m) logs (cond (leb m 1024) None (Some Invalid))
-  of_out = cond_both (leb m 1024) None (Some Invalid) (λ o. Refuses (Out f m) logs o) (λ h. few_asked (leb-true _ _ h)) (λ h. many_asked (leb-false _ _ h))
-
--- the same of a call and a refusal that are equal to these
-pub same : {x y : Call} {o q : Option Refusal} (logs : ℕ) → x ≡ y → o ≡ q → Refuses y logs q → Refuses x logs o
-same {x} {y} {o} {q} logs e f h = subst (λ (z : Call). Refuses z logs o) (sym e) (subst (λ (z : Option Refusal). Refuses y logs z) (sym f) h)
+-- the same of a call that is equal to this one
+pub same : {x y : Call} (r : Result Unit Refusal) (logs : ℕ) → x ≡ y → Refuses y logs r → Refuses x logs r
+same {x} {y} r logs e h = subst (λ (z : Call). Refuses z logs r) (sym e) h

@@ -1,5 +1,10 @@
 -- No two calls have the same bytes, and bytes of another length than a kind has are no call. Assumes nothing.
-use Rattle.std.proofs.Common.{◌≡◌, ℕ, true, false, List, [], ◌∷◌, length, get_or, drop, Ok, Err, Result, sym, refl, ap, ◌∙◌, subst, arith}
+use Rattle.std.proofs.Common.{◌≡◌, ℕ, ◌+◌, true, false, List, [], ◌∷◌, ◌-◌, ◌≤◌, ◌++◌, length, get_or, take, drop, set, Some, None, Option, Ok, Err, Result, sym, refl, ap, ◌∙◌, subst, arith}
+use Rattle.std.proofs.lemmas.Slice.{take-put_mid, drop-put_mid}
+use Rattle.std.proofs.lemmas.List.{length-set, drop-set-lt}
+use Rattle.std.proofs.Math.Seq.{take-suc-set}
+use borrow.Rule.Slice.PartMut.{put_mid}
+use Rattle.std.specs.Option.{ok_or}
 use Rattle.streams.specs.Calls.{core}
 use Rattle.octets.proofs.Bytes.{two_same, eight_same}
 use Rattle.plans.specs.declared.entries.Entry.TheVariants.{Happened, Still}
@@ -7,7 +12,9 @@ use Rattle.calls.specs.declared.kinds.Refusal.{Refusal}
 use Rattle.calls.specs.declared.kinds.Refusal.TheVariants.{Invalid, NoLog, Dropped, NotOut, Busy, NotBuilt}
 use Rattle.calls.specs.declared.kinds.Call.{Call}
 use Rattle.calls.specs.declared.kinds.Call.TheVariants.{Put, Out, Drop}
-use Rattle.calls.specs.Form.{call_of, kind_of, numbers_of, encoded, Fit, Unbuilt, Reads, ReadAgain}
+use Rattle.calls.specs.declared.kinds.Kind.{Kind}
+use Rattle.calls.specs.declared.kinds.Kind.TheVariants as kind
+use Rattle.calls.specs.Form.{call_of, kind_of, byte_of, size_of, numbers_of, encoded, Fit, Unbuilt, ReadsNumbers, Reads, ReadAgain}
 
 kinds : {j k : ℕ} {xs ys : List ℕ} → j ∷ xs ≡ k ∷ ys → j ≡ k
 kinds e = ap (λ l. get_or l 0 0) e
@@ -45,77 +52,81 @@ one_call (Drop a) (Drop b) f g e =
     λ i. Drop (record { 0 = before.0 i })
 
 -- all is built but dropping
-built : (c : Call) → core (call_of c) ≡ false → kind_of c ≡ 4
+built : (c : Call) → core (call_of c) ≡ false → kind_of c ≡ kind.Drop
 unfolding core
 built (Put l (Happened e)) h = let z : ◌≡◌ {A = ℕ} 0 1 = cc in absurd (omega arith)
 built (Put l (Still t)) h = let z : ◌≡◌ {A = ℕ} 0 1 = cc in absurd (omega arith)
 built (Out f m) h = let z : ◌≡◌ {A = ℕ} 0 1 = cc in absurd (omega arith)
 built (Drop b) h = refl
 
--- what does not begin with 4 does not begin as a call that is not built
-begun : (k : ℕ) (bs : List ℕ) → (k ≡ 4 → ⊥) → Unbuilt (k ∷ bs) → ⊥
-begun k bs h u = h (kinds u.2 ∙ built u.0 u.3)
-
-pub no_put : (bs : List ℕ) → (length bs ≡ 25 → ⊥) → Reads (1 ∷ bs) (Err Invalid)
-no_put bs h = (begun 1 bs (λ e. omega arith), λ c f e. h (ap length (ap (drop 1) e) ∙ long c (sym (kinds e))))
-  where
-    long : (c : Call) → kind_of c ≡ 1 → length (numbers_of c) ≡ 25
-    long (Put l (Happened e)) k = refl
-    long (Put l (Still t)) k = absurd (omega arith)
-    long (Out f m) k = absurd (omega arith)
-    long (Drop b) k = absurd (omega arith)
-
-pub no_still : (bs : List ℕ) → (length bs ≡ 9 → ⊥) → Reads (2 ∷ bs) (Err Invalid)
-no_still bs h = (begun 2 bs (λ e. omega arith), λ c f e. h (ap length (ap (drop 1) e) ∙ long c (sym (kinds e))))
-  where
-    long : (c : Call) → kind_of c ≡ 2 → length (numbers_of c) ≡ 9
-    long (Put l (Happened e)) k = absurd (omega arith)
-    long (Put l (Still t)) k = refl
-    long (Out f m) k = absurd (omega arith)
-    long (Drop b) k = absurd (omega arith)
-
-pub no_out : (bs : List ℕ) → (length bs ≡ 10 → ⊥) → Reads (3 ∷ bs) (Err Invalid)
-no_out bs h = (begun 3 bs (λ e. omega arith), λ c f e. h (ap length (ap (drop 1) e) ∙ long c (sym (kinds e))))
-  where
-    long : (c : Call) → kind_of c ≡ 3 → length (numbers_of c) ≡ 10
-    long (Put l (Happened e)) k = absurd (omega arith)
-    long (Put l (Still t)) k = absurd (omega arith)
-    long (Out f m) k = refl
-    long (Drop b) k = absurd (omega arith)
-
--- kinds go from 1 to 4
-pub no_kind : (k : ℕ) (bs : List ℕ) → (k ≡ 1 → ⊥) → (k ≡ 2 → ⊥) → (k ≡ 3 → ⊥) → (k ≡ 4 → ⊥) → Reads (k ∷ bs) (Err Invalid)
-no_kind k bs n1 n2 n3 n4 = (begun k bs n4, λ c f e. other c (kinds e))
-  where
-    other : (c : Call) → k ≡ kind_of c → ⊥
-    other (Put l (Happened e)) h = n1 h
-    other (Put l (Still t)) h = n2 h
-    other (Out f m) h = n3 h
-    other (Drop b) h = n4 h
-
-pub no_bytes : Reads [] (Err Invalid)
-no_bytes = (λ u. omega (arith, ap length u.2), λ c f e. omega (arith, ap length e))
-
-pub unbuilt : (bs : List ℕ) → Reads (4 ∷ bs) (Err NotBuilt)
-unfolding core
-unbuilt bs = (Drop (record { 0 = 0 }), bs, refl, refl)
-
-undropped : (d : Call) → core (call_of d) ≡ true → kind_of d ≡ 4 → ⊥
+undropped : (d : Call) → core (call_of d) ≡ true → byte_of (kind_of d) ≡ 4 → ⊥
 unfolding core
 undropped (Put l (Happened e)) b k = omega arith
 undropped (Put l (Still t)) b k = omega arith
 undropped (Out f m) b k = omega arith
 undropped (Drop x) b k = let z : ◌≡◌ {A = ℕ} 0 1 = cc in omega arith
 
+-- what does not begin with 4 does not begin as a call that is not built
+begun : (b : ℕ) (bs : List ℕ) → (b ≡ 4 → ⊥) → Unbuilt (b ∷ bs) → ⊥
+begun b bs h u = h (kinds u.2 ∙ ap byte_of (built u.0 u.3))
+
+pub long : (c : Call) → length (numbers_of c) + 1 ≡ size_of (kind_of c)
+long (Put l (Happened e)) = refl
+long (Put l (Still t)) = refl
+long (Out f m) = refl
+long (Drop b) = refl
+
+-- each kind goes by a byte of its own
+same_kind : (j k : Kind) → byte_of j ≡ byte_of k → j ≡ k
+same_kind kind.Put kind.Put e = refl
+same_kind kind.Put kind.Still e = absurd (omega arith)
+same_kind kind.Put kind.Out e = absurd (omega arith)
+same_kind kind.Put kind.Drop e = absurd (omega arith)
+same_kind kind.Still kind.Put e = absurd (omega arith)
+same_kind kind.Still kind.Still e = refl
+same_kind kind.Still kind.Out e = absurd (omega arith)
+same_kind kind.Still kind.Drop e = absurd (omega arith)
+same_kind kind.Out kind.Put e = absurd (omega arith)
+same_kind kind.Out kind.Still e = absurd (omega arith)
+same_kind kind.Out kind.Out e = refl
+same_kind kind.Out kind.Drop e = absurd (omega arith)
+same_kind kind.Drop kind.Put e = absurd (omega arith)
+same_kind kind.Drop kind.Still e = absurd (omega arith)
+same_kind kind.Drop kind.Out e = absurd (omega arith)
+same_kind kind.Drop kind.Drop e = refl
+
+built_else : (c : Call) → (byte_of (kind_of c) ≡ 4 → ⊥) → core (call_of c) ≡ true
+unfolding core
+built_else (Put l (Happened e)) n = refl
+built_else (Put l (Still t)) n = refl
+built_else (Out f m) n = refl
+built_else (Drop b) n = absurd (n refl)
+
+-- what is read of the numbers is read of the whole
+numbers_read : (k : Kind) (rest : List ℕ) (o : Option Call) → (byte_of k ≡ 4 → ⊥) → ReadsNumbers k rest o → Reads (byte_of k ∷ rest) (ok_or o Invalid)
+numbers_read k rest None n h = (begun (byte_of k) rest n, λ c f e. h (omega (arith, ap length e, long c, ap size_of (same_kind k (kind_of c) (kinds e)))))
+numbers_read k rest (Some c) n h = ((λ i. byte_of (sym h.0 i) ∷ h.1 i), h.2, built_else c (λ e. n (sym (ap byte_of h.0) ∙ e)))
+
 pub again : (bs : List ℕ) (r : Result Call Refusal) → Reads bs r → ReadAgain bs r
 unfolding core
 again bs (Ok c) h d f b e = ap Ok (one_call c d h.1 f (sym h.0 ∙ e))
 again bs (Err Invalid) h d f b e = absurd (h.1 d f e)
-again bs (Err NotBuilt) h d f b e = absurd (undropped d b (sym (ap (λ l. get_or l 0 0) e) ∙ ap (λ l. get_or l 0 0) h.2 ∙ built h.0 h.3))
+again bs (Err NotBuilt) h d f b e = absurd (undropped d b (sym (ap (λ l. get_or l 0 0) e) ∙ ap (λ l. get_or l 0 0) h.2 ∙ ap byte_of (built h.0 h.3)))
 again bs (Err NoLog) h d f b e = absurd h
 again bs (Err Dropped) h d f b e = absurd h
 again bs (Err NotOut) h d f b e = absurd h
 again bs (Err Busy) h d f b e = absurd h
 
-pub with_kind : (bs rest : List ℕ) (r : Result Call Refusal) → bs ≡ rest → Reads rest r → Reads bs r × ReadAgain bs r
-with_kind bs rest r e h = let k : Reads bs r = subst (λ (l : List ℕ). Reads l r) (sym e) h in (k, again bs r k)
+pub read_as : (k : Kind) (bs rest : List ℕ) (o : Option Call) (r : Result Call Refusal) → (byte_of k ≡ 4 → ⊥) → bs ≡ byte_of k ∷ rest → ReadsNumbers k rest o → r ≡ ok_or o Invalid → Reads bs r
+read_as k bs rest o r n e h is = subst (λ (l : List ℕ). Reads l r) (sym e) (subst (Reads (byte_of k ∷ rest)) (sym is) (numbers_read k rest o n h))
+
+pub unbuilt : (bs rest : List ℕ) → bs ≡ 4 ∷ rest → Reads bs (Err NotBuilt)
+unfolding core
+unbuilt bs rest e = (Drop (record { 0 = 0 }), rest, e, refl)
+
+-- a byte written, and then others behind it
+pub headed : (b n : ℕ) (out ns : List ℕ) → n ≡ length ns + 1 → n ≤ length out → take n (put_mid 1 (n - 1) (set out 0 b) ns) ≡ b ∷ ns
+headed b n out ns h le = take-put_mid 1 (n - 1) (set out 0 b) ns n (omega arith) (simp length-set (omega arith)) ∙ ap (λ l. l ++ ns) (take-suc-set out 0 b (omega arith))
+
+pub headed_kept : (b n : ℕ) (out ns : List ℕ) → n ≡ length ns + 1 → n ≤ length out → drop n (put_mid 1 (n - 1) (set out 0 b) ns) ≡ drop n out
+headed_kept b n out ns h le = drop-put_mid 1 (n - 1) (set out 0 b) ns n (omega arith) (simp length-set (omega arith)) (omega arith) ∙ drop-set-lt n out 0 b (omega arith)

@@ -1,83 +1,57 @@
 // Calls to and from bytes. Reading is total: any bytes are a call that is built, or are refused.
-ghost use Rattle.std.specs.Prelude.{◌∷◌};
-ghost use Rattle.plans.specs.declared.entries.Entry.TheVariants.{Happened, Still};
-ghost use Rattle.calls.specs.declared.kinds.Call.TheVariants.{Put, Out, Drop};
-ghost use Rattle.calls.specs.Form.{Reads, ReadAgain, Encodes};
+ghost use Rattle.std.specs.Prelude.{◌≡◌, ◌<◌, ◌++◌, length, MatchOption};
+ghost use Rattle.calls.specs.declared.kinds.Kind.TheVariants.{Put, Still, Out};
+ghost use Rattle.calls.specs.Form.{event_bytes, numbers_of, Fit, ReadsNumbers, Reads, ReadAgain, Encodes};
 
-use crate::kinds::{Call, Refusal};
-use octets::{eight_from, two_from, write_eight, write_two};
+use crate::kinds::{Call, Kind, Refusal};
+use octets::{number_from, write_number};
 use plans::entries::{Entry, Event};
 use plans::numbers::{Key, LogNumber, Place, Time, Value};
 
-// The kinds of calls, as bytes say them.
-const PUT: u8 = 1;
-
-const STILL: u8 = 2;
-
-const OUT: u8 = 3;
-
-const DROP: u8 = 4;
-
-fn put_from(b: &[u8]) -> Result<Call, Refusal>
-    ensures { Reads (1 ∷ b.now) result }
+// The event at the front of some bytes, its time, key and value, and what stands behind it.
+pub fn event_from(bytes: &[u8]) -> Option<(Event, &[u8])>
+    ensures { MatchOption result (length bytes.now < 24) (λ p. bytes.now ≡ event_bytes p.0 ++ p.1.now) }
 {
-    let [log, times @ ..] = b else {
-        return Err(Refusal::Invalid);
-    };
-    let Some((time, keys)) = eight_from(times) else {
-        return Err(Refusal::Invalid);
-    };
-    let Some((key, values)) = eight_from(keys) else {
-        return Err(Refusal::Invalid);
-    };
-    let Some((value, more)) = eight_from(values) else {
-        return Err(Refusal::Invalid);
-    };
-    let [] = more else {
-        return Err(Refusal::Invalid);
-    };
+    let (time, rest) = number_from(bytes)?;
+    let (key, rest) = number_from(rest)?;
+    let (value, rest) = number_from(rest)?;
     let event = Event {
         time: Time(time),
         key: Key(key),
         value: Value(value),
     };
-    Ok(Call::Put {
+    Some((event, rest))
+}
+
+// Each of these reads the call whose numbers are just these bytes.
+fn put_from(bytes: &[u8]) -> Option<Call>
+    ensures { ReadsNumbers Put bytes.now result }
+{
+    let (log, rest) = bytes.split_first()?;
+    let (event, rest) = event_from(rest)?;
+    rest.is_empty().then_some(Call::Put {
         log: LogNumber(*log),
         entry: Entry::Happened(event),
     })
 }
 
-fn still_from(b: &[u8]) -> Result<Call, Refusal>
-    ensures { Reads (2 ∷ b.now) result }
+fn still_from(bytes: &[u8]) -> Option<Call>
+    ensures { ReadsNumbers Still bytes.now result }
 {
-    let [log, times @ ..] = b else {
-        return Err(Refusal::Invalid);
-    };
-    let Some((time, more)) = eight_from(times) else {
-        return Err(Refusal::Invalid);
-    };
-    let [] = more else {
-        return Err(Refusal::Invalid);
-    };
-    Ok(Call::Put {
+    let (log, rest) = bytes.split_first()?;
+    let (time, rest) = number_from(rest)?;
+    rest.is_empty().then_some(Call::Put {
         log: LogNumber(*log),
         entry: Entry::Still(Time(time)),
     })
 }
 
-fn out_from(b: &[u8]) -> Result<Call, Refusal>
-    ensures { Reads (3 ∷ b.now) result }
+fn out_from(bytes: &[u8]) -> Option<Call>
+    ensures { ReadsNumbers Out bytes.now result }
 {
-    let Some((from, counts)) = eight_from(b) else {
-        return Err(Refusal::Invalid);
-    };
-    let Some((most, behind)) = two_from(counts) else {
-        return Err(Refusal::Invalid);
-    };
-    let [] = behind else {
-        return Err(Refusal::Invalid);
-    };
-    Ok(Call::Out {
+    let (from, rest) = number_from(bytes)?;
+    let (most, rest) = number_from(rest)?;
+    rest.is_empty().then_some(Call::Out {
         from: Place(from),
         most,
     })
@@ -88,81 +62,58 @@ pub fn decode(bytes: &[u8]) -> Result<Call, Refusal>
     ensures reads { Reads bytes.now result }
     ensures again { ReadAgain bytes.now result }
 {
-    let [kind, rest @ ..] = bytes else {
-        return Err(Refusal::Invalid);
-    };
-    match *kind {
-        PUT => put_from(rest),
-        STILL => still_from(rest),
-        OUT => out_from(rest),
-        DROP => Err(Refusal::NotBuilt),
-        _ => Err(Refusal::Invalid),
+    let (kind, rest) = bytes.split_first().ok_or(Refusal::Invalid)?;
+    match Kind::try_from(*kind)? {
+        Kind::Put => put_from(rest).ok_or(Refusal::Invalid),
+        Kind::Still => still_from(rest).ok_or(Refusal::Invalid),
+        Kind::Out => out_from(rest).ok_or(Refusal::Invalid),
+        Kind::Drop => Err(Refusal::NotBuilt),
     }
 }
 
-fn write_put(log: LogNumber, event: Event, out: &mut [u8]) -> Option<usize>
-    ensures { Encodes (Put log (Happened event)) out.old out.new result }
+// Writes what stands behind the kind of a call.
+fn write_numbers(call: Call, out: &mut [u8])
+    requires { length out.old ≡ length (numbers_of call) }
+    ensures wrote { out.new ≡ numbers_of call }
+    ensures fit { Fit call }
 {
-    if out.len() < 26 {
-        return None;
+    match call {
+        Call::Put {
+            log,
+            entry: Entry::Happened(event),
+        } => {
+            out[0] = log.0;
+            let at = write_number(out, 1, event.time.0);
+            let at = write_number(out, at, event.key.0);
+            write_number(out, at, event.value.0);
+        }
+        Call::Put {
+            log,
+            entry: Entry::Still(time),
+        } => {
+            out[0] = log.0;
+            write_number(out, 1, time.0);
+        }
+        Call::Out { from, most } => {
+            let at = write_number(out, 0, from.0);
+            write_number(out, at, most);
+        }
+        Call::Drop { before } => {
+            write_number(out, 0, before.0);
+        }
     }
-    out[0] = PUT;
-    out[1] = log.0;
-    write_eight(out, 2, event.time.0);
-    write_eight(out, 10, event.key.0);
-    write_eight(out, 18, event.value.0);
-    Some(26)
-}
-
-fn write_still(log: LogNumber, time: Time, out: &mut [u8]) -> Option<usize>
-    ensures { Encodes (Put log (Still time)) out.old out.new result }
-{
-    if out.len() < 10 {
-        return None;
-    }
-    out[0] = STILL;
-    out[1] = log.0;
-    write_eight(out, 2, time.0);
-    Some(10)
-}
-
-fn write_out(from: Place, most: u16, out: &mut [u8]) -> Option<usize>
-    ensures { Encodes (Out from most) out.old out.new result }
-{
-    if out.len() < 11 {
-        return None;
-    }
-    out[0] = OUT;
-    write_eight(out, 1, from.0);
-    write_two(out, 9, most);
-    Some(11)
-}
-
-fn write_drop(before: Place, out: &mut [u8]) -> Option<usize>
-    ensures { Encodes (Drop before) out.old out.new result }
-{
-    if out.len() < 9 {
-        return None;
-    }
-    out[0] = DROP;
-    write_eight(out, 1, before.0);
-    Some(9)
 }
 
 // Writes the call's bytes at the front of `out`, and says how many. Where they have no room, nothing is written.
 pub fn encode(call: Call, out: &mut [u8]) -> Option<usize>
     ensures { Encodes call out.old out.new result }
 {
-    match call {
-        Call::Put {
-            log,
-            entry: Entry::Happened(event),
-        } => write_put(log, event, out),
-        Call::Put {
-            log,
-            entry: Entry::Still(time),
-        } => write_still(log, time, out),
-        Call::Out { from, most } => write_out(from, most, out),
-        Call::Drop { before } => write_drop(before, out),
+    let kind = call.kind();
+    let size = kind.size();
+    if out.len() < size {
+        return None;
     }
+    out[0] = u8::from(kind);
+    write_numbers(call, &mut out[1..size]);
+    Some(size)
 }
