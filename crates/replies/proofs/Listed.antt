@@ -1,23 +1,19 @@
 -- Events listed as bytes are read again, and bytes read as events are listed again. Assumes nothing.
-use Rattle.std.proofs.Common.{◌≡◌, ℕ, zero, suc, ◌+◌, ◌-◌, ◌*◌, ◌<◌, ◌≤◌, List, [], ◌∷◌, ◌++◌, length, get_or, take, drop, sym, refl, ap, ◌∙◌, arith, length-drop, get_or-drop, take_all}
+use Rattle.std.proofs.Common.{◌≡◌, ℕ, zero, suc, ◌+◌, ◌*◌, ◌/◌, ◌^◌, ◌<◌, ◌≤◌, List, [], ◌∷◌, ◌++◌, length, get_or, take, drop, Some, None, sym, refl, ap, ◌∙◌, arith, length-drop, get_or-drop, take_all}
 use lib.Seq.{take-append-add}
+use Rattle.std.proofs.lemmas.List.{drop-drop}
 use Rattle.streams.specs.Meaning.{Event}
 use Rattle.octets.specs.Form.{eight, word_of}
 use Rattle.octets.proofs.Bytes.{eight_of, eight_value, eight_same}
-use Rattle.octets.proofs.Front.{drop_more}
 use Rattle.replies.specs.Form.{EachFit}
-use Rattle.replies.specs.Listing.{listing, first_of, listed}
+use Rattle.replies.specs.Listing.{listing, first_of, listed, events_in, Got}
+use Rattle.calls.specs.Form.{event_bytes}
+use Rattle.plans.specs.Model.{as_event}
+use Rattle.plans.specs.declared.entries.Event as code
 
 pub length_listed : (n : ℕ) (bs : List ℕ) → length (listed n bs) ≡ n
 length_listed zero bs = refl
 length_listed (suc n) bs = ap suc (length_listed n (drop 24 bs))
-
-word_of_is : (n : ℕ) (bs rest : List ℕ) → n < 18446744073709551616 → bs ≡ eight n ++ rest → n ≡ word_of bs
-word_of_is n bs rest h e = eight_value n h ∙ sym (ap word_of e)
-
--- the number that is read from a place on
-pub word_in : (at n : ℕ) (bs rest : List ℕ) → n < 18446744073709551616 → at ≤ length bs → take (length bs - at) (drop at bs) ≡ eight n ++ rest → n ≡ word_of (drop at bs)
-word_in at n bs rest h le e = word_of_is n (drop at bs) rest h (sym (take_all (length bs - at) (drop at bs) (simp length-drop (omega arith))) ∙ e)
 
 -- the event at each place
 pub listed_at : (n i : ℕ) (bs : List ℕ) (d : Event) → i < n → get_or (listed n bs) i d ≡ first_of (drop (24 * i) bs)
@@ -25,13 +21,19 @@ listed_at zero i bs d h = absurd (omega arith)
 listed_at (suc n) zero bs d h = refl
 listed_at (suc n) (suc i) bs d h =
     let e : 24 + 24 * i ≡ 24 * suc i = omega arith in
-    listed_at n i (drop 24 bs) d (omega arith) ∙ ap first_of (drop_more 24 (24 * i) bs ∙ ap (λ k. drop k bs) e)
+    listed_at n i (drop 24 bs) d (omega arith) ∙ ap first_of (drop-drop (24 * i) 24 bs ∙ ap (λ k. drop k bs) e)
 
-pub event_at : (n i : ℕ) (bs : List ℕ) (d : Event) → i < n → d.time ≡ word_of (drop (24 * i) bs) → d.key ≡ word_of (drop (24 * i + 8) bs) → d.value ≡ word_of (drop (24 * i + 16) bs) → get_or (listed n bs) i d ≡ d
-event_at n i bs d h t k v =
-    let ek = k ∙ ap word_of (sym (drop_more (24 * i) 8 bs)) in
-    let ev = v ∙ ap word_of (sym (drop_more (24 * i) 16 bs)) in
-    listed_at n i bs d h ∙ (λ j. record { time = sym t j; key = sym ek j; value = sym ev j })
+-- the event that stands behind i others
+pub event_at : (i : ℕ) (bs rest : List ℕ) (e : code.Event) → e.time.0 < 2 ^ 64 → e.key.0 < 2 ^ 64 → e.value.0 < 2 ^ 64 → drop (24 * i) bs ≡ event_bytes e ++ rest → Got (events_in bs) i (Some e)
+event_at i bs rest e t k v is =
+    let many = length_listed (length bs / 24) bs in
+    let in_range : i < length bs / 24 = omega (arith, ap length is, length-drop (24 * i) bs) in
+    let first : first_of (event_bytes e ++ rest) ≡ as_event e =
+    λ j. record { time = sym (eight_value e.time.0 t) j; key = sym (eight_value e.key.0 k) j; value = sym (eight_value e.value.0 v) j } in
+    (omega arith, listed_at (length bs / 24) i bs (as_event e) in_range ∙ ap first_of is ∙ first)
+
+pub none_at : (i : ℕ) (bs : List ℕ) → length bs < 24 * i + 24 → Got (events_in bs) i None
+none_at i bs h = omega (arith, length_listed (length bs / 24) bs)
 
 module _ (bs : List ℕ) (f : (i : ℕ) → get_or bs i 0 < 256) where
   low : word_of bs < 18446744073709551616
@@ -54,7 +56,7 @@ split : (bs : List ℕ) → ((i : ℕ) → get_or bs i 0 < 256) → 24 ≤ lengt
 split bs f h =
     let two = cut (drop 8 bs) (later_byte bs f 8) (simp length-drop (omega arith)) in
     let three = cut (drop 16 bs) (later_byte bs f 16) (simp length-drop (omega arith)) in
-    let mid = drop_more 8 8 bs ∙ three ∙ ap (λ l. eight (word_of (drop 16 bs)) ++ l) (drop_more 16 8 bs) in
+    let mid = drop-drop 8 8 bs ∙ three ∙ ap (λ l. eight (word_of (drop 16 bs)) ++ l) (drop-drop 8 16 bs) in
     cut bs f (omega arith) ∙ ap (λ l. eight (word_of bs) ++ l) (two ∙ ap (λ l. eight (word_of (drop 8 bs)) ++ l) mid)
 
 -- bytes that are whole events are the listing of these

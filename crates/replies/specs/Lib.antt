@@ -1,2 +1,3 @@
+pub mod Kinds
 pub mod Listing
 pub mod Form

@@ -1,128 +1,64 @@
 // Answers to and from bytes.
-ghost use Rattle.std.specs.Prelude.{◌≡◌, ◌∷◌, MatchOption, ◌≢◌};
-ghost use Rattle.streams.specs.Calls.{No, Yes, Outs, Full};
-ghost use Rattle.calls.specs.Form.{number_of};
-ghost use Rattle.calls.specs.declared.kinds.Refusal.{Refusal as Why};
+ghost use Rattle.std.specs.Prelude.{◌≡◌, ◌∷◌};
+ghost use Rattle.streams.specs.Calls.{Reply as Answer, Outs};
 ghost use Rattle.replies.specs.Listing.{events_in};
-ghost use Rattle.replies.specs.Form.{reply_of, Reads, Encodes};
+ghost use Rattle.replies.specs.Form.{form, reply_of, Reads, Encodes};
 
-use crate::events::Events;
-use crate::kinds::Reply;
+use crate::events::{EVENT, Events};
+use crate::kinds::{Kind, Reply};
 use calls::kinds::Refusal;
-use calls::refusals::number;
-use octets::{two_from, write_bytes, write_two};
+use octets::{number_from, write_bytes, write_number};
 
-// The kinds of answers, as bytes say them.
-const REFUSED: u8 = 0;
-
-const YES: u8 = 1;
-
-const OUT: u8 = 2;
-
-const FULL: u8 = 3;
-
-// The refusal that goes by a number.
-pub fn refusal_by(number: u8) -> Option<Refusal>
-    ensures { MatchOption result ((q : Why) → number_of q ≢ number) (λ q. number_of q ≡ number) }
+fn refused_from(bytes: &[u8]) -> Option<Reply<'_>>
+    ensures { Reads (0 ∷ bytes.now) result }
 {
-    match number {
-        1 => Some(Refusal::Invalid),
-        2 => Some(Refusal::NoLog),
-        3 => Some(Refusal::Dropped),
-        4 => Some(Refusal::NotOut),
-        11 => Some(Refusal::Busy),
-        12 => Some(Refusal::NotBuilt),
-        _ => None,
-    }
+    let (number, rest) = bytes.split_first()?;
+    let refusal = Refusal::try_from(*number).ok()?;
+    rest.is_empty().then_some(Reply::Refused { refusal })
 }
 
-fn refused_from(b: &[u8]) -> Option<Reply<'_>>
-    ensures { Reads (0 ∷ b.now) result }
+fn out_from(bytes: &[u8]) -> Option<Reply<'_>>
+    ensures { Reads (2 ∷ bytes.now) result }
 {
-    let [number] = b else {
-        return None;
-    };
-    let Some(refusal) = refusal_by(*number) else {
-        return None;
-    };
-    Some(Reply::Refused { refusal })
-}
-
-fn out_from(b: &[u8]) -> Option<Reply<'_>>
-    ensures { Reads (2 ∷ b.now) result }
-{
-    let Some((count, bytes)) = two_from(b) else {
-        return None;
-    };
-    if bytes.len() != 24 * usize::from(count) {
-        return None;
-    }
-    Some(Reply::Out {
-        events: Events { bytes },
-    })
+    let (count, bytes) = number_from::<u16, 2>(bytes)?;
+    let events = Events { bytes };
+    (bytes.len() == EVENT * usize::from(count)).then_some(Reply::Out { events })
 }
 
 // The answer that has just these bytes.
 pub fn decode(bytes: &[u8]) -> Option<Reply<'_>>
     ensures { Reads bytes.now result }
 {
-    let [kind, rest @ ..] = bytes else {
-        return None;
-    };
-    match *kind {
-        REFUSED => refused_from(rest),
-        YES if rest.is_empty() => Some(Reply::Yes),
-        OUT => out_from(rest),
-        FULL if rest.is_empty() => Some(Reply::Full),
-        _ => None,
+    let (kind, rest) = bytes.split_first()?;
+    match Kind::try_from(*kind).ok()? {
+        Kind::Refused => refused_from(rest),
+        Kind::Yes => rest.is_empty().then_some(Reply::Yes),
+        Kind::Out => out_from(rest),
+        Kind::Full => rest.is_empty().then_some(Reply::Full),
     }
 }
 
-fn write_refused(refusal: Refusal, out: &mut [u8]) -> Option<usize>
-    ensures { Encodes (No (number_of refusal)) out.old out.new result }
+// Writes the bytes of an answer at the front of `out`, if they have room.
+fn write_whole(bytes: &[u8], out: &mut [u8]) -> Option<usize>
+    ensures { (a : Answer) → form a ≡ bytes.now → Encodes a out.old out.new result }
 {
-    if out.len() < 2 {
+    if out.len() < bytes.len() {
         return None;
     }
-    out[0] = REFUSED;
-    out[1] = number(refusal);
-    Some(2)
-}
-
-fn write_yes(out: &mut [u8]) -> Option<usize>
-    ensures { Encodes Yes out.old out.new result }
-{
-    if out.len() < 1 {
-        return None;
-    }
-    out[0] = YES;
-    Some(1)
-}
-
-fn write_full(out: &mut [u8]) -> Option<usize>
-    ensures { Encodes Full out.old out.new result }
-{
-    if out.len() < 1 {
-        return None;
-    }
-    out[0] = FULL;
-    Some(1)
+    Some(write_bytes(out, 0, bytes))
 }
 
 fn write_out(bytes: &[u8], out: &mut [u8]) -> Option<usize>
     ensures { Encodes (Outs (events_in bytes.now)) out.old out.new result }
 {
-    let Ok(count) = u16::try_from(bytes.len() / 24) else {
-        return None;
-    };
-    let size = 24 * usize::from(count);
-    if out.len() < 3 + size {
+    let count = u16::try_from(bytes.len() / EVENT).ok()?;
+    let events = &bytes[..EVENT * usize::from(count)];
+    if out.len() < 3 + events.len() {
         return None;
     }
-    out[0] = OUT;
-    write_two(out, 1, count);
-    write_bytes(out, 3, &bytes[0..size]);
-    Some(3 + size)
+    out[0] = u8::from(Kind::Out);
+    let at = write_number(out, 1, count);
+    Some(write_bytes(out, at, events))
 }
 
 // Writes the answer's bytes at the front of `out`, and says how many. Where they have no room, or there are 2^16 events
@@ -131,9 +67,11 @@ pub fn encode(reply: Reply<'_>, out: &mut [u8]) -> Option<usize>
     ensures { Encodes (reply_of reply.entry) out.old out.new result }
 {
     match reply {
-        Reply::Refused { refusal } => write_refused(refusal, out),
-        Reply::Yes => write_yes(out),
+        Reply::Refused { refusal } => {
+            write_whole(&[u8::from(Kind::Refused), u8::from(refusal)], out)
+        }
+        Reply::Yes => write_whole(&[u8::from(Kind::Yes)], out),
         Reply::Out { events } => write_out(events.bytes, out),
-        Reply::Full => write_full(out),
+        Reply::Full => write_whole(&[u8::from(Kind::Full)], out),
     }
 }

@@ -1,17 +1,6 @@
-use Rattle.std.proofs.Common.{rules}
-use Rattle.streams.specs.Calls.{Yes, Full}
-use Rattle.octets.proofs.Bytes.{front}
-use Rattle.replies.proofs.Same.{told, with_kind, lone}
+use Rattle.std.proofs.Common.{◌≡◌, ◌∷◌, None, rules}
+use Rattle.replies.proofs.Same.{no_kind, with_kind}
 use Rattle.replies.proofs.coding.decode.Goals as goal
 
-pub returns-in-0 : goal.returns-in-0
-returns-in-0 c = with_kind _ _ c.refused_from.result (rw c.in-0.is at (front c.args.bytes.now (search rules))) c.refused_from.ensures
-
-pub returns-in-1 : goal.returns-in-1
-returns-in-1 c = told c.args.bytes.now Yes tt (rw c.in-1.is at (lone c.args.bytes.now (search rules)))
-
-pub returns-in-2 : goal.returns-in-2
-returns-in-2 c = with_kind _ _ c.out_from.result (rw c.in-2.is at (front c.args.bytes.now (search rules))) c.out_from.ensures
-
-pub returns-in-3 : goal.returns-in-3
-returns-in-3 c = told c.args.bytes.now Full tt (rw c.in-3.is at (lone c.args.bytes.now (search rules)))
+pub returns-in_err-ok : goal.returns-in_err-ok
+returns-in_err-ok c = let e : c.args.bytes.now ≡ c.in_ok-kind.kind.now ∷ c.in_ok-kind.rest.now = search rules in rw c.from_residual-in_err-ok.ensures (with_kind _ _ None e (no_kind c.in_ok-kind.kind.now c.in_ok-kind.rest.now (λ k. search rules)))

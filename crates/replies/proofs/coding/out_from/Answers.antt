@@ -1,12 +1,12 @@
-use Rattle.std.proofs.Common.{length, sym, ap, ◌∙◌, arith, rules}
-use Rattle.octets.proofs.Bytes.{two_same}
-use Rattle.replies.proofs.Same.{out_told, no_out}
+use Rattle.std.proofs.Common.{◌*◌, nat_eq, length, ap, ◌∙◌, arith, rules}
+use Rattle.std.specs.Bool.{then_some}
+use Rattle.replies.specs.declared.events.Events.{Events}
+use Rattle.replies.specs.declared.kinds.Reply.TheVariants.{Out}
+use Rattle.replies.proofs.Same.{out_read}
 use Rattle.replies.proofs.coding.out_from.Goals as goal
 
-pub returns-then-bytes-from : goal.returns-then-bytes-from
-returns-then-bytes-from c =
-    no_out c.args.b.now
-    (λ m rest lt e h. let same = two_same m c.in-Some.count rest c.in-Some.bytes.now lt (search rules) (sym e ∙ c.in-Some.ensures) in c.if-bytes-from.true (omega (arith, same.0, ap length same.1)))
-
 pub returns : goal.returns
-returns c = out_told c.args.b.now c.in-Some.bytes.now c.in-Some.count (λ i. omega (arith, c.type_inv.b i)) (search rules) c.in-Some.ensures (omega arith)
+returns c =
+    let es : Events = record { bytes = c.in_ok-count.bytes } in
+    let read = c.then_some.ensures ∙ ap (λ n. then_some (nat_eq (length c.in_ok-count.bytes.now) (24 * n)) (Out es)) c.from.ensures in
+    out_read c.args.bytes.now es c.in_ok-count.count c.then_some.result (λ i. omega (arith, c.type_inv.bytes i)) (search rules) (search rules) read
