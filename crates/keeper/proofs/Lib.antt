@@ -1,2 +1,3 @@
+mod Failures
 mod Allowed
 mod Entries

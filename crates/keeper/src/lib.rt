@@ -8,6 +8,7 @@ use plans::stages::Plan;
 
 pub mod doing;
 mod logs;
+pub mod undone;
 
 #[derive(Drop)]
 pub struct Keeper {

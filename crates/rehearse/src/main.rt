@@ -2,10 +2,9 @@
 // input, and prints what came out. A line that is wrong is named with its number, and the rest goes on.
 #![tactic(auto)]
 
-use calls::kinds::{Call, Refusal};
-use calls::refusals::{number, refusal};
-use grammar::refusals::Refusal as TextRefusal;
+use calls::kinds::Call;
 use keeper::Keeper;
+use keeper::undone::Undone;
 use plans::entries::{Entry, Event};
 use plans::numbers::{LogNumber, Place};
 use scripts::commands::Command;
@@ -91,7 +90,7 @@ impl Play {
             Ok(Command::PlanFile { at: from }) => self.plan_file(rt, at, line, from)?,
             Ok(Command::Logs { count }) => self.logs(rt, at, count)?,
             Ok(Command::Put { log, entry }) => self.put(rt, at, log, entry)?,
-            Ok(Command::All) => self.all(rt)?,
+            Ok(Command::All) => self.all(rt, at)?,
             Ok(Command::Out { from, most }) => self.out(rt, at, from, most)?,
             Ok(Command::Drop { before }) => self.drop_before(rt, at, before)?,
             Err(complaint) => println!(rt; "line {at}: {complaint}")?,
@@ -176,22 +175,19 @@ impl Play {
             println!(rt; "line {at}: a log is 0 to 255")?;
             return Ok(());
         };
-        if let Some(why) = self.keeper.put(LogNumber(log), entry)? {
-            refuse(rt, at, why)?;
+        match self.keeper.put(LogNumber(log), entry) {
+            Ok(()) => Ok(()),
+            Err(undone) => tell_undone(rt, at, undone),
         }
-        Ok(())
     }
 
     // out: all that came out
-    fn all(&mut self, rt: &HostRuntime) -> Result<(), Stop> {
+    fn all(&mut self, rt: &HostRuntime, at: u64) -> Result<(), Stop> {
         self.called = true;
         for from in (0..u64::MAX).step_by(usize::from(MOST)) {
-            let Ok(part) = self
-                .keeper
-                .out(rt.alloc(), Place(from), MOST)
-                .map_err(|_| Stop::Memory)?
-            else {
-                return Ok(());
+            let part = match self.keeper.out(rt.alloc(), Place(from), MOST) {
+                Ok(part) => part,
+                Err(undone) => return tell_undone(rt, at, undone),
             };
             print_events(rt, from, part.as_slice())?;
             if part.len() < usize::from(MOST) {
@@ -208,29 +204,20 @@ impl Play {
             println!(rt; "line {at}: at most 65535 are asked for")?;
             return Ok(());
         };
-        match self
-            .keeper
-            .out(rt.alloc(), Place(from), most)
-            .map_err(|_| Stop::Memory)?
-        {
-            Ok(part) => print_events(rt, from, part.as_slice())?,
-            Err(why) => refuse(rt, at, why)?,
+        match self.keeper.out(rt.alloc(), Place(from), most) {
+            Ok(part) => print_events(rt, from, part.as_slice()),
+            Err(undone) => tell_undone(rt, at, undone),
         }
-        Ok(())
     }
 
     // drop BEFORE
     fn drop_before(&mut self, rt: &HostRuntime, at: u64, before: u64) -> Result<(), Stop> {
         self.called = true;
-        if let Some(why) = refusal(
-            Call::Drop {
-                before: Place(before),
-            },
-            self.logs,
-        ) {
-            refuse(rt, at, why)?;
+        let before = Place(before);
+        match (Call::Drop { before }).check(self.logs) {
+            Ok(()) => Ok(()),
+            Err(why) => tell_undone(rt, at, Undone::Refused(why)),
         }
-        Ok(())
     }
 }
 
@@ -254,9 +241,11 @@ fn unreadable(rt: &HostRuntime, at: u64) -> Result<(), Stop> {
     Ok(println!(rt; "line {at}: the plan's file cannot be read")?)
 }
 
-// A call that is refused, with the number of the refusal.
-fn refuse(rt: &HostRuntime, at: u64, why: Refusal) -> Result<(), Stop> {
-    let n = number(why);
-    println!(rt; "line {at}: refused, {n}")?;
-    Ok(())
+// Why a call was not done: the number of its refusal. Plans that are read are within their limits, so else only memory can
+// be wanting.
+fn tell_undone(rt: &HostRuntime, at: u64, undone: Undone) -> Result<(), Stop> {
+    match undone {
+        Undone::Refused(why) => Ok(println!(rt; "line {at}: refused, {}", u8::from(why))?),
+        Undone::BadPlan | Undone::Memory => Err(Stop::Memory),
+    }
 }
