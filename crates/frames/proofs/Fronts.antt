@@ -1,11 +1,10 @@
 -- What stands at the front of bytes, case by case; it stays as bytes are added behind. Assumes nothing.
 use Rattle.std.proofs.Common.{◌≡◌, ℕ, ◌+◌, ◌-◌, ◌<◌, ◌≤◌, List, [], ◌∷◌, ◌++◌, length, get_or, take, drop, sym, refl, ap, ◌∙◌, subst, ⊎_elim, arith, length-append, length-drop}
 use lib.Seq.{drop-append-le, take-append-le, take-append_seam, drop-append_seam}
-use Rattle.std.proofs.lemmas.List.{get_or_append_left}
+use Rattle.std.proofs.lemmas.List.{get_or_append_left, drop-drop}
 use Rattle.std.proofs.lemmas.Bool.{lt-ltb, le-ltb, cases_lt}
 use Rattle.octets.specs.Form.{four, eight, four_of, word_of}
 use Rattle.octets.proofs.Bytes.{four_value, eight_value}
-use Rattle.octets.proofs.Front.{drop_more}
 use Rattle.frames.specs.declared.kinds.Traffic.{Traffic}
 use Rattle.frames.specs.declared.kinds.Fault.TheVariants.{TooLong, TooShort}
 use Rattle.frames.specs.Lines.{line, least, Seen, Whole, NotYet, Refused, seen, LinesAgain}
@@ -132,20 +131,39 @@ module _ (t : Traffic) (a : List ℕ) where
       go (whole h2 h3 h4 h5 h6) = so (at_whole t a h2 h3 h4 h5 h6) (simp length-drop (omega arith))
 
 -- what is seen where the numbers are known, as they are read one after the other
-pub number_of : (n : ℕ) (bs rest : List ℕ) → n < 4294967296 → bs ≡ four n ++ rest → four_of bs ≡ n
+number_of : (n : ℕ) (bs rest : List ℕ) → n < 4294967296 → bs ≡ four n ++ rest → four_of bs ≡ n
 number_of n bs rest h e = ap four_of e ∙ sym (four_value n h)
 
-pub whole_seen : (t : Traffic) (n m : ℕ) (bs bodies : List ℕ) → n ≤ 1048576 → m < 18446744073709551616 → bs ≡ four n ++ eight m ++ bodies → 9 ≤ n → 1 ≤ length bodies → 8 + least t (get_or bodies 0 0) ≤ n → n ≤ 8 + length bodies →
-    seen t bs ≡ Whole m (take (n - 8) bodies) (drop (n - 8) bodies)
-whole_seen t n m bs bodies h2 hm e h3 h4 h5 h6 =
-    let n_is = number_of n bs _ (omega arith) e in
-    let long = ap length e in
-    let kind-is = ap (λ l. least t (get_or l 12 0)) e in
-    let number : word_of (drop 4 bs) ≡ m = ap (λ l. word_of (drop 4 l)) e ∙ sym (eight_value m hm) in
-    let body : take (four_of bs - 8) (drop 12 bs) ≡ take (n - 8) bodies = (λ i. take (n_is i - 8) (drop 12 (e i))) in
-    let end : 12 + (n - 8) ≡ 4 + four_of bs = omega arith in
-    let rest : drop (4 + four_of bs) bs ≡ drop (n - 8) bodies = ap (λ k. drop k bs) (sym end) ∙ sym (drop_more 12 (n - 8) bs) ∙ ap (λ l. drop (n - 8) (drop 12 l)) e in
-    at_whole t bs (omega arith) (omega arith) (omega arith) (omega arith) (omega arith) ∙ (λ i. Whole (number i) (body i) (rest i))
+module _ (t : Traffic) (n : ℕ) (bs rest : List ℕ) (fits : n < 4294967296) (e : bs ≡ four n ++ rest) where
+  pub long_seen : 1048576 < n → seen t bs ≡ Refused TooLong
+  long_seen h = let n_is = number_of n bs rest fits e in let size = ap length e in at_long t bs (omega arith) (omega arith)
+
+  pub small_seen : n ≤ 1048576 → n < 9 → seen t bs ≡ Refused TooShort
+  small_seen h2 h3 = let n_is = number_of n bs rest fits e in let size = ap length e in at_small t bs (omega arith) (omega arith) (omega arith)
+
+  pub head_seen : n ≤ 1048576 → 9 ≤ n → length rest < 9 → seen t bs ≡ NotYet
+  head_seen h2 h3 h4 = let n_is = number_of n bs rest fits e in let size = ap length e in at_head t bs (omega arith) (omega arith) (omega arith) (omega arith)
+
+  module _ (m : ℕ) (bodies : List ℕ) (e' : rest ≡ eight m ++ bodies) (h2 : n ≤ 1048576) (h3 : 9 ≤ n) (h4 : 1 ≤ length bodies) where
+    joined : bs ≡ four n ++ eight m ++ bodies
+    joined = e ∙ ap (λ l. four n ++ l) e'
+
+    pub kind_seen : n - 8 < least t (get_or bodies 0 0) → seen t bs ≡ Refused TooShort
+    kind_seen h5 = let n_is = number_of n bs rest fits e in let size = ap length joined in let kind-is = ap (λ l. least t (get_or l 12 0)) joined in at_kind t bs (omega arith) (omega arith) (omega arith) (omega arith)
+
+    pub wait_seen : least t (get_or bodies 0 0) ≤ n - 8 → length bodies < n - 8 → seen t bs ≡ NotYet
+    wait_seen h5 h6 = let n_is = number_of n bs rest fits e in let size = ap length joined in let kind-is = ap (λ l. least t (get_or l 12 0)) joined in at_wait t bs (omega arith) (omega arith) (omega arith) (omega arith) (omega arith)
+
+    pub whole_seen : m < 18446744073709551616 → least t (get_or bodies 0 0) ≤ n - 8 → n - 8 ≤ length bodies → seen t bs ≡ Whole m (take (n - 8) bodies) (drop (n - 8) bodies)
+    whole_seen hm h5 h6 =
+        let n_is = number_of n bs rest fits e in
+        let size = ap length joined in
+        let kind-is = ap (λ l. least t (get_or l 12 0)) joined in
+        let number : word_of (drop 4 bs) ≡ m = ap (λ l. word_of (drop 4 l)) joined ∙ sym (eight_value m hm) in
+        let body : take (four_of bs - 8) (drop 12 bs) ≡ take (n - 8) bodies = (λ i. take (n_is i - 8) (drop 12 (joined i))) in
+        let end : 12 + (n - 8) ≡ 4 + four_of bs = omega arith in
+        let left : drop (4 + four_of bs) bs ≡ drop (n - 8) bodies = ap (λ k. drop k bs) (sym end) ∙ sym (drop-drop (n - 8) 12 bs) ∙ ap (λ l. drop (n - 8) (drop 12 l)) joined in
+        at_whole t bs (omega arith) (omega arith) (omega arith) (omega arith) (omega arith) ∙ (λ i. Whole (number i) (body i) (left i))
 
 pub lines_again : LinesAgain
 lines_again t n body rest hn fits some enough =
@@ -155,4 +173,4 @@ lines_again t n body rest hn fits some enough =
     let k = ap (least t) first in
     let body_is = ap (λ k. take k (body ++ rest)) size ∙ take-append_seam body rest in
     let rest-is = ap (λ k. drop k (body ++ rest)) size ∙ drop-append_seam body rest in
-    whole_seen t (8 + length body) n (line n body ++ rest) (body ++ rest) fits hn refl (omega arith) (omega arith) (omega arith) (omega arith) ∙ (λ i. Whole n (body_is i) (rest-is i))
+    whole_seen t (8 + length body) (line n body ++ rest) (eight n ++ body ++ rest) (omega arith) refl n (body ++ rest) refl fits (omega arith) (omega arith) hn (omega arith) (omega arith) ∙ (λ i. Whole n (body_is i) (rest-is i))

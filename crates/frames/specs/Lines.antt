@@ -1,6 +1,6 @@
 -- Lines: what stands at the front of bytes, and how a stream of them is read piece by piece.
 -- Assumes nothing.
-use Rattle.std.specs.Prelude.{◌≡◌, ℕ, zero, suc, ◌+◌, ◌-◌, ◌<◌, ◌≤◌, cond, ◌⊎◌, List, [], ◌∷◌, ◌++◌, length, take, drop, Some, None, Option, ◌==◌, nat_lt, slice_index}
+use Rattle.std.specs.Prelude.{◌≡◌, ℕ, zero, suc, ◌+◌, ◌-◌, ◌<◌, ◌≤◌, cond, ◌⊎◌, List, [], ◌∷◌, ◌++◌, length, take, drop, Some, None, Option, Ok, Err, Result, ◌==◌, nat_lt, slice_index}
 use Rattle.octets.specs.Form.{four, eight, four_of, word_of}
 use Rattle.streams.specs.Calls.{Reply}
 use Rattle.calls.specs.declared.kinds.Call.{Call}
@@ -11,7 +11,6 @@ use Rattle.frames.specs.declared.kinds.Traffic.TheVariants.{Calls, Replies}
 use Rattle.frames.specs.declared.kinds.Fault.{Fault}
 use Rattle.frames.specs.declared.kinds.Fault.TheVariants.{TooLong, TooShort}
 use Rattle.frames.specs.declared.kinds.Frame.{Frame}
-use Rattle.frames.specs.declared.kinds.Frame.TheVariants as code
 
 -- THE FORM OF A LINE
 abbrev pub line : (number : ℕ) → List ℕ → List ℕ
@@ -27,10 +26,10 @@ pub data Seen : Type 0 where
   NotYet : Seen
   Refused : Fault → Seen
 
-abbrev pub seen_of : Frame → Seen
-seen_of (code.Whole n b r) = Whole n.0 b.now r.now
-seen_of code.NotYet = NotYet
-seen_of (code.Refused f) = Refused f
+abbrev pub seen_of : Result (Option Frame) Fault → Seen
+seen_of (Ok (Some f)) = Whole f.number.0 f.body.now f.rest.now
+seen_of (Ok None) = NotYet
+seen_of (Err fault) = Refused fault
 
 -- WHAT STANDS AT THE FRONT of bytes. It is known as soon as the bytes that it takes are there.
 unfoldable pub seen : Traffic → List ℕ → Seen

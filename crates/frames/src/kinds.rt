@@ -16,17 +16,10 @@ pub enum Fault {
     TooShort,
 }
 
+// A line, and what is left behind it.
 #[derive(Clone, Copy)]
-pub enum Frame<'a> {
-    // A line, and what is left behind it.
-    Whole {
-        number: CallNumber,
-        body: &'a [u8],
-        rest: &'a [u8],
-    },
-    // The line goes on beyond what has come so far.
-    NotYet,
-    Refused {
-        fault: Fault,
-    },
+pub struct Frame<'a> {
+    pub number: CallNumber,
+    pub body: &'a [u8],
+    pub rest: &'a [u8],
 }

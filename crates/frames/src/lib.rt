@@ -5,3 +5,6 @@
 pub mod kinds;
 pub mod reading;
 pub mod writing;
+
+// A line's length is this at most, with the number's 8 bytes: 1 MiB.
+const LONGEST: u32 = 1_048_576;

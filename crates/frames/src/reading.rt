@@ -1,72 +1,65 @@
 // Reading lines off the front of a growing buffer.
 ghost use Rattle.std.specs.Prelude.{◌≡◌};
+ghost use Rattle.std.specs.Option.{option_transpose};
 ghost use Rattle.frames.specs.Lines.{least as fewest, seen, seen_of, AnyCutting};
 
+use crate::LONGEST;
 use crate::kinds::{Fault, Frame, Traffic};
-use octets::{eight_from, four_from};
+use calls::kinds::Kind as CallKind;
+use octets::number_from;
 use plans::numbers::CallNumber;
-
-// A line's length is this at most: 1 MiB.
-const LONGEST: u32 = 1_048_576;
+use replies::kinds::Kind as ReplyKind;
 
 // The fewest bytes that a call or an answer of a kind has. Of kinds that are not built, or that there are not, only
 // the kind must be there: they are refused as calls.
-fn least(traffic: Traffic, kind: u8) -> u32
+fn least(traffic: Traffic, kind: u8) -> usize
     ensures { result ≡ fewest traffic kind }
 {
-    match (traffic, kind) {
-        (Traffic::Calls, 1) => 26,
-        (Traffic::Calls, 2) => 10,
-        (Traffic::Calls, 3) => 11,
-        (Traffic::Replies, 0) => 2,
-        (Traffic::Replies, 2) => 3,
-        _ => 1,
+    match traffic {
+        Traffic::Calls => match CallKind::try_from(kind) {
+            Ok(CallKind::Drop) => 1,
+            Ok(kind) => kind.size(),
+            Err(_) => 1,
+        },
+        Traffic::Replies => match ReplyKind::try_from(kind) {
+            Ok(kind) => kind.least(),
+            Err(_) => 1,
+        },
     }
 }
 
-// The line at the front of these bytes.
-pub fn read(traffic: Traffic, bytes: &[u8]) -> Frame<'_>
-    ensures { seen_of result ≡ seen traffic bytes.now }
+// The line at the front of these bytes or why it is refused, as soon as that is known.
+fn front(traffic: Traffic, bytes: &[u8]) -> Option<Result<Frame<'_>, Fault>>
+    ensures { seen_of (option_transpose result) ≡ seen traffic bytes.now }
 {
-    let Some((length, numbered)) = four_from(bytes) else {
-        return Frame::NotYet;
-    };
+    let (length, rest) = number_from::<u32, 4>(bytes)?;
     if length > LONGEST {
-        return Frame::Refused {
-            fault: Fault::TooLong,
-        };
+        return Some(Err(Fault::TooLong));
     }
     if length < 9 {
-        return Frame::Refused {
-            fault: Fault::TooShort,
-        };
+        return Some(Err(Fault::TooShort));
     }
-    let Some((number, bodies)) = eight_from(numbered) else {
-        return Frame::NotYet;
-    };
-    let [kind, ..] = bodies else {
-        return Frame::NotYet;
-    };
-    if length < 8 + least(traffic, *kind) {
-        return Frame::Refused {
-            fault: Fault::TooShort,
-        };
-    }
+    let (number, rest) = number_from(rest)?;
     let size = (length - 8) as usize;
-    if bodies.len() < size {
-        return Frame::NotYet;
+    if size < least(traffic, *rest.first()?) {
+        return Some(Err(Fault::TooShort));
     }
-    let (body, rest) = bodies.split_at(size);
-    Frame::Whole {
+    let (body, rest) = rest.split_at_checked(size)?;
+    Some(Ok(Frame {
         number: CallNumber(number),
         body,
         rest,
-    }
+    }))
+}
+
+// The line at the front of these bytes; none, where it goes on beyond what has come so far.
+pub fn read(traffic: Traffic, bytes: &[u8]) -> Result<Option<Frame<'_>>, Fault>
+    ensures { seen_of result ≡ seen traffic bytes.now }
+{
+    front(traffic, bytes).transpose()
 }
 
 // However a stream is cut into pieces, the same lines are read.
-pub fn any_cutting() -> u8
+pub fn any_cutting()
     ensures { AnyCutting }
-{
-    0
-}
+{}
