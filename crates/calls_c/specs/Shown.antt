@@ -38,12 +38,13 @@ abbrev pub Sent : Option Call → (before after : List ℕ) → Option ℕ → T
 Sent None before after x = (x ≡ None) × (after ≡ before)
 Sent (Some c) before after x = Encodes c before after x
 
-abbrev pub number_or0 : Option Refusal → ℕ
-number_or0 None = 0
-number_or0 (Some r) = number_of r
+-- the number of a refusal, or 0
+abbrev pub number_or0 : Result Unit Refusal → ℕ
+number_or0 (Ok u) = 0
+number_or0 (Err r) = number_of r
 
 abbrev pub Named : Result Call Refusal → (logs : ℕ) → ℕ → Type 0
-Named (Ok c) logs n = (o : Option Refusal) × Refuses c logs o × (n ≡ number_or0 o)
+Named (Ok c) logs n = (r : Result Unit Refusal) × Refuses c logs r × (n ≡ number_or0 r)
 Named (Err r) logs n = n ≡ number_of r
 
 abbrev pub shown_reply : Option Reply → ReplyFields
