@@ -3,13 +3,7 @@
 # bytes made from fixed seeds. The last line is 'N passed, M failed'.
 set -u
 cd "$(dirname "$0")/.." || exit 1
-if ! log=$(cd crates/calls_c && rt lib 2>&1); then
-    echo "$log"
-    echo "0 passed, 1 failed"
-    exit 1
-fi
-if ! cargo build --release --offline --quiet --manifest-path bench/Cargo.toml; then
-    echo "0 passed, 1 failed"
-    exit 1
-fi
+. tests/must
+must crates/calls_c rt lib
+must bench cargo build --release --offline --quiet
 bench/target/release/compare tests/calls.txt
