@@ -1,2 +1,2 @@
 mod Defaults
-mod Writes
+mod Stages

@@ -2,186 +2,156 @@
 // without what equals its default. What is written is `printed` of the crate `grammar`.
 #![tactic(auto)]
 
-ghost use Rattle.std.specs.Prelude.{◌≡◌, map, IfOk, decimal};
-ghost use Rattle.grammar.specs.Printing.{bond as bond_of, within as within_of, pair as pair_of, shown as shown_of, is_number_one, is_just_key, is_value, said as said_of, named as named_of, text_of_stage, text_of_stages, printed};
+ghost use Rattle.std.specs.Prelude.{◌≡◌, ◌++◌, Some, IfOk};
+ghost use Rattle.grammar.specs.Printing.{bond as bond_of, within as within_of, shown, said, named as named_of, text_of_stage, printed};
 ghost use Rattle.plans.specs.Model.{expr_of, as_sum, stage_of, plan_of};
-ghost use Rattle.print.specs.Wrote.{Wrote};
 
 use plans::exprs::Expr;
 use plans::stages::{Aggregate, Plan, Stage};
 use std::alloc::{AllocError, Global};
+use std::fmt;
+use std::fmt::Display;
 
 // The text of a plan.
 pub fn print(heap: Global, plan: &Plan) -> Result<Vec<u8>, AllocError>
     ensures { IfOk result (λ v. v.items ≡ printed (plan_of plan.now)) }
 {
-    let mut out = Vec::new(heap);
-    word(b"late ", &mut out)?;
-    digits(plan.late.0, &mut out)?;
-    stages_text(plan.stages.as_slice(), &mut out)?;
-    Ok(out)
+    let text = Text(plan).to_string(heap)?;
+    Ok(text.into_bytes())
 }
 
-fn stages_text(stages: &[Stage], out: &mut Vec<u8>) -> Result<(), AllocError>
-    ensures { Wrote out.old.items out.new.items (text_of_stages (map stage_of stages.now)) result }
-{
-    for stage in stages {
-        word(b"; ", out)?;
-        stage_text(stage, out)?;
-    }
-    Ok(())
-}
+// A plan, a stage or an expression, to be written as text.
+#[derive(Drop)]
+struct Text<'a, T>(&'a T);
 
-fn stage_text(stage: &Stage, out: &mut Vec<u8>) -> Result<(), AllocError>
-    ensures { Wrote out.old.items out.new.items (text_of_stage (stage_of stage.now)) result }
-{
-    said(b"keep", is_one(&stage.keep), &stage.keep, out)?;
-    said(b"key", is_key(&stage.key), &stage.key, out)?;
-    said(b"value", is_value(&stage.value), &stage.value, out)?;
-    word(b"in ", out)?;
-    digits(stage.size.0, out)?;
-    word(b" ", out)?;
-    word(named(stage.aggregate), out)
-}
+impl Display for Text<'_, Plan> {
+    ghost output = { λ x. Some (printed (plan_of x.0.now)) };
 
-// A part of a stage, with a blank behind it, unless it is left out.
-fn said(name: &[u8], left_out: bool, e: &Expr, out: &mut Vec<u8>) -> Result<(), AllocError>
-    ensures { Wrote out.old.items out.new.items (said_of name.now left_out (expr_of e.now)) result }
-{
-    if left_out {
-        return Ok(());
-    }
-    word(name, out)?;
-    word(b" ", out)?;
-    shown(e, out)?;
-    word(b" ", out)
-}
-
-fn is_one(e: &Expr) -> bool
-    ensures { result ≡ is_number_one (expr_of e.now) }
-{
-    match e {
-        Expr::Num(n) => *n == 1,
-        _ => false,
+    fn fmt<W: fmt::Write>(&self, f: &mut fmt::Formatter<W>) -> fmt::Result {
+        write!(f, "late {}", self.0.late.0)?;
+        for stage in &self.0.stages {
+            write!(f, "; {}", Text(stage))?;
+        }
+        Ok(())
     }
 }
 
-fn is_key(e: &Expr) -> bool
-    ensures { result ≡ is_just_key (expr_of e.now) }
-{
-    match e {
-        Expr::Key => true,
-        _ => false,
+impl Display for Text<'_, Stage> {
+    ghost output = { λ x. Some (text_of_stage (stage_of x.0.now)) };
+
+    fn fmt<W: fmt::Write>(&self, f: &mut fmt::Formatter<W>) -> fmt::Result {
+        let Stage {
+            keep,
+            key,
+            value,
+            size,
+            aggregate,
+        } = self.0;
+        let keep = Said("keep", keep, matches!(keep, Expr::Num(n) if *n == 1));
+        let key = Said("key", key, matches!(key, Expr::Key));
+        let value = Said("value", value, matches!(value, Expr::Value));
+        write!(f, "{keep}{key}{value}in {} {}", size.0, named(*aggregate))
     }
 }
 
-fn is_value(e: &Expr) -> bool
-    ensures { result ≡ is_value (expr_of e.now) }
-{
-    match e {
-        Expr::Value => true,
-        _ => false,
+// A part of a stage by its name, with a blank behind it, unless it is left out.
+#[derive(Clone, Copy)]
+struct Said<'a>(&'static str, &'a Expr, bool);
+
+impl Display for Said<'_> {
+    ghost output = { λ x. Some (said x.0.now x.2 (expr_of x.1.now)) };
+
+    fn fmt<W: fmt::Write>(&self, f: &mut fmt::Formatter<W>) -> fmt::Result {
+        let Said(name, expr, left_out) = *self;
+        if left_out {
+            return Ok(());
+        }
+        write!(f, "{name} {} ", Text(expr))
     }
 }
 
-fn named(aggregate: Aggregate) -> &'static [u8]
+#[tactic(auto, unfolding(grammar::specs::Printing::named))]
+fn named(aggregate: Aggregate) -> &'static str
     ensures { result.now ≡ named_of (as_sum aggregate) }
 {
     match aggregate {
-        Aggregate::Count => b"count",
-        Aggregate::Total => b"total",
-        Aggregate::Least => b"least",
-        Aggregate::Greatest => b"greatest",
+        Aggregate::Count => "count",
+        Aggregate::Total => "total",
+        Aggregate::Least => "least",
+        Aggregate::Greatest => "greatest",
     }
 }
 
 // How close an expression binds: a comparison 1, a sum 2, a product 3, what needs no brackets anywhere 4.
+#[tactic(auto, unfolding(grammar::specs::Printing::bond))]
 fn bond(e: &Expr) -> u8
     ensures { result ≡ bond_of (expr_of e.now) }
 {
     match e {
-        Expr::Less(_, _) => 1,
-        Expr::Same(_, _) => 1,
-        Expr::Plus(_, _) => 2,
-        Expr::Minus(_, _) => 2,
-        Expr::Times(_, _) => 3,
-        Expr::Quotient(_, _) => 3,
-        Expr::Rest(_, _) => 3,
-        Expr::Num(_) => 4,
-        Expr::Time => 4,
-        Expr::Key => 4,
-        Expr::Value => 4,
-        Expr::Not(_) => 4,
+        Expr::Less(_, _) | Expr::Same(_, _) => 1,
+        Expr::Plus(_, _) | Expr::Minus(_, _) => 2,
+        Expr::Times(_, _) | Expr::Quotient(_, _) | Expr::Rest(_, _) => 3,
+        Expr::Num(_) | Expr::Time | Expr::Key | Expr::Value | Expr::Not(_) => 4,
     }
 }
 
-// An expression, in brackets if it binds less than `least`.
-#[cycle(pair_shown_within)]
-fn within(least: u8, e: &Expr, out: &mut Vec<u8>) -> Result<(), AllocError>
-    ensures { Wrote out.old.items out.new.items (within_of least (bond_of (expr_of e.now)) (shown_of (expr_of e.now))) result }
-{
-    if bond(e) >= least {
-        return shown(e, out);
-    }
-    word(b"(", out)?;
-    shown(e, out)?;
-    word(b")", out)
-}
+// Without brackets around it. Inner expressions are written by `fmt` itself, since a proof does not follow a recursion
+// through a format string.
+impl Display for Text<'_, Expr> {
+    ghost output = { λ x. Some (shown (expr_of x.0.now)) };
 
-// An expression, without brackets around it.
-#[cycle(pair_shown_within)]
-fn shown(e: &Expr, out: &mut Vec<u8>) -> Result<(), AllocError>
-    ensures { Wrote out.old.items out.new.items (shown_of (expr_of e.now)) result }
-{
-    match e {
-        Expr::Num(n) => digits(*n, out),
-        Expr::Time => word(b"time", out),
-        Expr::Key => word(b"key", out),
-        Expr::Value => word(b"value", out),
-        Expr::Plus(a, b) => pair(2, a, b'+', 3, b, out),
-        Expr::Minus(a, b) => pair(2, a, b'-', 3, b, out),
-        Expr::Times(a, b) => pair(3, a, b'*', 4, b, out),
-        Expr::Quotient(a, b) => pair(3, a, b'/', 4, b, out),
-        Expr::Rest(a, b) => pair(3, a, b'%', 4, b, out),
-        Expr::Less(a, b) => pair(2, a, b'<', 2, b, out),
-        Expr::Same(a, b) => pair(2, a, b'=', 2, b, out),
-        Expr::Not(a) => {
-            word(b"!", out)?;
-            within(4, a, out)
+    #[cycle(text)]
+    #[tactic(auto, unfolding(grammar::specs::Printing::shown))]
+    fn fmt<W: fmt::Write>(&self, f: &mut fmt::Formatter<W>) -> fmt::Result {
+        match self.0 {
+            Expr::Num(n) => write!(f, "{n}"),
+            Expr::Time => f.write_str("time"),
+            Expr::Key => f.write_str("key"),
+            Expr::Value => f.write_str("value"),
+            Expr::Plus(a, b) => Pair(Within(2, a), " + ", Within(3, b)).fmt(f),
+            Expr::Minus(a, b) => Pair(Within(2, a), " - ", Within(3, b)).fmt(f),
+            Expr::Times(a, b) => Pair(Within(3, a), " * ", Within(4, b)).fmt(f),
+            Expr::Quotient(a, b) => Pair(Within(3, a), " / ", Within(4, b)).fmt(f),
+            Expr::Rest(a, b) => Pair(Within(3, a), " % ", Within(4, b)).fmt(f),
+            Expr::Less(a, b) => Pair(Within(2, a), " < ", Within(2, b)).fmt(f),
+            Expr::Same(a, b) => Pair(Within(2, a), " = ", Within(2, b)).fmt(f),
+            Expr::Not(a) => {
+                f.write_str("!")?;
+                Within(4, a).fmt(f)
+            }
         }
     }
 }
 
-// Two sides, each with the bond that it needs there, and a sign between them.
-#[cycle(pair_shown_within)]
-fn pair(
-    left: u8,
-    a: &Expr,
-    sign: u8,
-    right: u8,
-    b: &Expr,
-    out: &mut Vec<u8>,
-) -> Result<(), AllocError>
-    ensures { Wrote out.old.items out.new.items (pair_of sign (within_of left (bond_of (expr_of a.now)) (shown_of (expr_of a.now))) (within_of right (bond_of (expr_of b.now)) (shown_of (expr_of b.now)))) result }
-{
-    within(left, a, out)?;
-    word(&[b' ', sign, b' '], out)?;
-    within(right, b, out)
-}
+// An expression, in brackets if it binds less than the number says.
+#[derive(Clone, Copy)]
+struct Within<'a>(u8, &'a Expr);
 
-fn word(bytes: &[u8], out: &mut Vec<u8>) -> Result<(), AllocError>
-    ensures { Wrote out.old.items out.new.items bytes.now result }
-{
-    out.extend_from_slice(bytes)
-}
+impl Display for Within<'_> {
+    ghost output = { λ x. Some (within_of x.0 (bond_of (expr_of x.1.now)) (shown (expr_of x.1.now))) };
 
-// A number, by its decimal digits.
-fn digits(n: u64, out: &mut Vec<u8>) -> Result<(), AllocError>
-    ensures { Wrote out.old.items out.new.items (decimal n) result }
-{
-    if n < 10 {
-        return word(&[b'0' + n as u8], out);
+    #[cycle(text)]
+    fn fmt<W: fmt::Write>(&self, f: &mut fmt::Formatter<W>) -> fmt::Result {
+        if bond(self.1) >= self.0 {
+            return Text(self.1).fmt(f);
+        }
+        f.write_str("(")?;
+        Text(self.1).fmt(f)?;
+        f.write_str(")")
     }
-    digits(n / 10, out)?;
-    word(&[b'0' + (n % 10) as u8], out)
+}
+
+// Two sides with a sign between them.
+#[derive(Clone, Copy)]
+struct Pair<'a>(Within<'a>, &'static str, Within<'a>);
+
+impl Display for Pair<'_> {
+    ghost output = { λ x. Some (within_of x.0.0 (bond_of (expr_of x.0.1.now)) (shown (expr_of x.0.1.now)) ++ (x.1.now ++ within_of x.2.0 (bond_of (expr_of x.2.1.now)) (shown (expr_of x.2.1.now)))) };
+
+    #[cycle(text)]
+    fn fmt<W: fmt::Write>(&self, f: &mut fmt::Formatter<W>) -> fmt::Result {
+        self.0.fmt(f)?;
+        f.write_str(self.1)?;
+        self.2.fmt(f)
+    }
 }
