@@ -10,5 +10,3 @@ pub loop-event-init : goal.loop-event-init
 unfolding cells ended
 loop-event-init c = rw c.new-cells.ensures.empty
 
-pub returns : goal.returns
-returns c = rw (all_through (stage_of c.args.stage.now) c.args.mark.0 c.args.events.now _ _ c.loop-event-test.false c.loop-event.invariant) at c.events_of.ensures
