@@ -1,6 +1,6 @@
 pub mod Order
 pub mod Places
 pub mod Halves
-pub mod Ranges
+pub mod Parts
 pub mod Shares
 pub mod Written

@@ -85,7 +85,7 @@ tri a b = go (cases_order a.end b.end) (cases_order a.stage b.stage) (cases_orde
     go (inr (inl e)) _ _ = before (inl e)
     go (inr (inr e)) _ _ = behind (inl e)
 
-each_like : (P Q : Key → Type 0) → ((k : Key) → P k → Q k) → (cs : List Row) → Each P cs → Each Q cs
+pub each_like : (P Q : Key → Type 0) → ((k : Key) → P k → Q k) → (cs : List Row) → Each P cs → Each Q cs
 each_like P Q f [] h = tt
 each_like P Q f (c ∷ cs) h = (f c.at h.0, each_like P Q f cs h.1)
 

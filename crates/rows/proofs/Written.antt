@@ -1,36 +1,21 @@
--- A table's words are its rows as the book writes them, so that a table is written to a page and read from it as it stands.
+-- The words of rows in memory are the rows as the book writes them, so that rows are written to a page and read from it as
+-- they stand.
 -- Assumes nothing.
-use Rattle.std.proofs.Common.{◌≡◌, ℕ, zero, suc, ◌+◌, ◌*◌, ◌≤◌, List, [], ◌∷◌, ◌++◌, length, take, refl, ap, arith}
-use Rattle.book.specs.Rows.{Row}
+use Rattle.std.proofs.Common.{◌≡◌, ℕ, suc, ◌<◌, List, [], ◌∷◌, length, get_or, refl, arith}
+use Rattle.std.specs.List.{flat_map}
 use Rattle.book.specs.Words.{write_all, write_row}
-use Rattle.rows.specs.Table.{row_in, listed, rows_of}
-use Rattle.rows.proofs.Places.{listed_same}
+use Rattle.rows.specs.Model.{row_in, rows_of}
 
--- the rows behind the first
-row_rest : (a b c d : ℕ) (ws : List ℕ) (j : ℕ) → row_in (a ∷ b ∷ c ∷ d ∷ ws) (suc j) ≡ row_in ws j
-row_rest a b c d ws j =
-    let e0 : 4 * suc j ≡ suc (suc (suc (suc (4 * j)))) = omega arith in
-    let e1 : 4 * suc j + 1 ≡ suc (suc (suc (suc (4 * j + 1)))) = omega arith in
-    let e2 : 4 * suc j + 2 ≡ suc (suc (suc (suc (4 * j + 2)))) = omega arith in
-    let e3 : 4 * suc j + 3 ≡ suc (suc (suc (suc (4 * j + 3)))) = omega arith in
-    rw (e1, e2, e3, e0) refl
+row_written : (w : List ℕ) → length w ≡ 4 → w ≡ write_row (row_in w)
+row_written (a ∷ b ∷ c ∷ d ∷ []) h = refl
+row_written (a ∷ b ∷ c ∷ d ∷ e ∷ ws) h = absurd (omega arith)
+row_written [] h = absurd (omega arith)
+row_written (a ∷ []) h = absurd (omega arith)
+row_written (a ∷ b ∷ []) h = absurd (omega arith)
+row_written (a ∷ b ∷ c ∷ []) h = absurd (omega arith)
 
-rows_rest : (a b c d : ℕ) (ws : List ℕ) (n : ℕ) → listed (λ j. row_in (a ∷ b ∷ c ∷ d ∷ ws) (suc j)) n ≡ rows_of n ws
-rows_rest a b c d ws n = listed_same (row_in ws) (λ j. row_in (a ∷ b ∷ c ∷ d ∷ ws) (suc j)) n (λ j p. row_rest a b c d ws j)
-
-pub rows_written : (n : ℕ) (ws : List ℕ) → 4 * n ≤ length ws → take (4 * n) ws ≡ write_all write_row (rows_of n ws)
+pub rows_written : (slots : List (List ℕ)) → ((i : ℕ) → i < length slots → length (get_or slots i []) ≡ 4) → flat_map (λ x. x) slots ≡ write_all write_row (rows_of slots)
 unfolding write_all
-rows_written zero ws h = refl
-rows_written (suc n) [] h = absurd (omega arith)
-rows_written (suc n) (a ∷ []) h = absurd (omega arith)
-rows_written (suc n) (a ∷ b ∷ []) h = absurd (omega arith)
-rows_written (suc n) (a ∷ b ∷ c ∷ []) h = absurd (omega arith)
-rows_written (suc n) (a ∷ b ∷ c ∷ d ∷ ws) h =
-    let z : 4 * suc n ≡ suc (suc (suc (suc (4 * n)))) = omega arith in
-    rw (z, rows_rest a b c d ws n) (ap (λ (vs : List ℕ). a ∷ b ∷ c ∷ d ∷ vs) (rows_written n ws (omega arith)))
-
-pub rows_read : (rs : List Row) (more : List ℕ) → rows_of (length rs) (write_all write_row rs ++ more) ≡ rs
-unfolding write_all
-rows_read [] more = refl
-rows_read (r ∷ rs) more =
-    rw (rows_rest r.at.end r.at.stage r.at.key r.value (write_all write_row rs ++ more) (length rs)) (ap (λ (xs : List Row). r ∷ xs) (rows_read rs more))
+rows_written [] h = refl
+rows_written (w ∷ ws) h =
+    rw (rows_written ws (λ i lt. h (suc i) (omega arith)), row_written w (h 0 (omega arith))) refl

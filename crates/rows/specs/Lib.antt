@@ -1,4 +1,4 @@
 pub mod Model
-pub mod Table
+pub mod Search
 pub mod Segments
 pub mod Flow

@@ -1,12 +1,12 @@
--- The rows of a segment in a table: which they are, the share of them that is picked, and what is left.
+-- The rows of a segment among sorted rows: which they are, the share of them that is picked, and what is left.
 -- Assumes nothing.
-use Rattle.std.specs.Prelude.{◌≡◌, ℕ, zero, suc, ◌<◌, ◌≤◌, Bool, true, false, not, ◌&&◌, List, [], ◌∷◌, Some, None, Option}
-use Rattle.book.specs.Rows.{Key, Row, ltk}
+use Rattle.std.specs.Prelude.{◌≡◌, ℕ, zero, suc, ◌≤◌, Bool, true, false, not, ◌&&◌, List, [], ◌∷◌, length, take, drop, Some, None, Option}
+use Rattle.book.specs.Rows.{Key, Row, Each, ltk}
 use Rattle.book.specs.Queue.{Seg, is_of, pick, left}
 use Rattle.rows.specs.declared.row.RowKey.{RowKey}
 use Rattle.rows.specs.declared.segments.KeyRange.{KeyRange}
 use Rattle.rows.specs.Model.{key_of}
-use Rattle.rows.specs.Table.{Splits}
+use Rattle.rows.specs.Search.{Splits}
 
 -- the upper end of a segment: the low of the next, if there is one
 abbrev pub IsHigh : Option RowKey → (next : List Seg) → Type 0
@@ -29,18 +29,18 @@ is_below (Some h) k = ltk k (key_of h)
 abbrev pub within : KeyRange → Key → Bool
 within r k = not (ltk k (key_of r.low)) && is_below r.high k
 
--- so many of n rows are below the upper end
-abbrev pub Ends : Option RowKey → (ℕ → Row) → (n e : ℕ) → Type 0
-Ends None f n e = e ≡ n
-Ends (Some h) f n e = Splits (key_of h) f n e
+-- so many rows are below the upper end
+abbrev pub Ends : Option RowKey → List Row → (e : ℕ) → Type 0
+Ends None rs e = e ≡ length rs
+Ends (Some h) rs e = Splits (key_of h) rs e
 
--- of n rows a test holds for those from a on, before b, and for no others
-pub record Run (t : Key → Bool) (f : ℕ → Row) (n a b : ℕ) : Type 0 where
+-- a test holds for the rows from a on, before b, and for no others
+pub record Run (t : Key → Bool) (rs : List Row) (a b : ℕ) : Type 0 where
   pub order : a ≤ b
-  pub within : b ≤ n
-  pub low : (j : ℕ) → j < a → t (f j).at ≡ false
-  pub mid : (j : ℕ) → a ≤ j → j < b → t (f j).at ≡ true
-  pub high : (j : ℕ) → b ≤ j → j < n → t (f j).at ≡ false
+  pub within : b ≤ length rs
+  pub low : Each (λ k. t k ≡ false) (take a rs)
+  pub mid : Each (λ k. t k ≡ true) (drop a (take b rs))
+  pub high : Each (λ k. t k ≡ false) (drop b rs)
 
 -- what is picked of rows for the segment of a range, at most so many, and what is left
 pub record Shared (r : KeyRange) (most : ℕ) (rs share rest : List Row) : Type 0 where

@@ -1,47 +1,55 @@
-// A row, by value: what the values of one window, stage and key come to so far.
+// A row: what the values of one window, stage and key come to so far. By value, and as the four words that it is in memory.
 ghost use Rattle.std.specs.Prelude.{◌≡◌};
-ghost use Rattle.book.specs.Rows.{ltk, eqk, put};
+ghost use Rattle.book.specs.Rows.{put};
 ghost use Rattle.plans.specs.Model.{as_sum};
-ghost use Rattle.rows.specs.Model.{key_of, aggregates_of};
+ghost use Rattle.rows.specs.Model.{row_of, row_in, aggregates_of};
 
 use plans::numbers::{Key, Time, Value};
 use plans::stages::{Aggregate, Stage};
 
 // Which stage of a plan, from 0 on.
-#[derive(Clone, Copy)]
+#[derive(Clone, Copy, PartialEq, Eq, PartialOrd, Ord, Debug)]
 pub struct StageNumber(pub u64);
 
 // What rows are sorted by: the end of the window, the stage, and the key that the stage gives.
-#[derive(Clone, Copy)]
+#[derive(Clone, Copy, PartialEq, Eq, PartialOrd, Ord, Debug)]
 pub struct RowKey {
     pub end: Time,
     pub stage: StageNumber,
     pub key: Key,
 }
 
-#[derive(Clone, Copy)]
+#[derive(Clone, Copy, PartialEq, Eq, Debug)]
 pub struct Row {
     pub at: RowKey,
     pub value: Value,
 }
 
-impl RowKey {
-    pub fn is_before(self, other: RowKey) -> bool
-        ensures { result ≡ ltk (key_of self) (key_of other) }
-    {
-        if self.end.0 != other.end.0 {
-            return self.end.0 < other.end.0;
-        }
-        if self.stage.0 != other.stage.0 {
-            return self.stage.0 < other.stage.0;
-        }
-        self.key.0 < other.key.0
-    }
+// A row in memory and in a page: the end, the stage and the key, and the value.
+pub type RowWords = [u64; 4];
 
-    pub(crate) fn is_same(self, other: RowKey) -> bool
-        ensures { result ≡ eqk (key_of self) (key_of other) }
-    {
-        self.end.0 == other.end.0 && self.stage.0 == other.stage.0 && self.key.0 == other.key.0
+impl From<RowWords> for Row {
+    ghost from_gives = { λ words row. row_of row ≡ row_in words };
+
+    fn from(words: RowWords) -> Row {
+        let [end, stage, key, value] = words;
+        let at = RowKey {
+            end: Time(end),
+            stage: StageNumber(stage),
+            key: Key(key),
+        };
+        Row {
+            at,
+            value: Value(value),
+        }
+    }
+}
+
+impl From<Row> for RowWords {
+    ghost from_gives = { λ row words. row_in words ≡ row_of row };
+
+    fn from(row: Row) -> RowWords {
+        [row.at.end.0, row.at.stage.0, row.at.key.0, row.value.0]
     }
 }
 
@@ -51,8 +59,8 @@ pub(crate) fn join(how: Aggregate, a: Value, b: Value) -> Value
 {
     match how {
         Aggregate::Count | Aggregate::Total => Value(a.0.wrapping_add(b.0)),
-        Aggregate::Least => if b.0 < a.0 { b } else { a },
-        Aggregate::Greatest => if a.0 < b.0 { b } else { a },
+        Aggregate::Least => a.min(b),
+        Aggregate::Greatest => a.max(b),
     }
 }
 
@@ -60,10 +68,8 @@ pub(crate) fn join(how: Aggregate, a: Value, b: Value) -> Value
 pub(crate) fn aggregate_of(stages: &[Stage], stage: StageNumber) -> Aggregate
     ensures { as_sum result ≡ aggregates_of stages.now stage.0 }
 {
-    let i = stage.0 as usize;
-    if i < stages.len() {
-        stages[i].aggregate
-    } else {
-        Aggregate::Count
+    match stages.get(stage.0 as usize) {
+        Some(stage) => stage.aggregate,
+        None => Aggregate::Count,
     }
 }

@@ -1,15 +1,16 @@
-// The rows of a segment in a sorted table: a segment has the keys from its low on, below the next one's.
-// As in `table`, the caller keeps the table and its count, and has proved that there is room and that rows are sorted.
-ghost use Rattle.std.specs.Prelude.{◌≡◌, ℕ, ◌+◌, ◌-◌, ◌*◌, ◌≤◌, List, ◌++◌, length, take, drop};
+// The rows of a segment among sorted rows: a segment has the keys from its low on, below the next one's.
+// Rows are searched as a slice, so that those of a page that is only shown can be searched too: that they are sorted is
+// required here, while `Rows` keeps its own sorted.
+ghost use Rattle.std.specs.Prelude.{◌≡◌, ℕ, ◌+◌, ◌-◌, ◌≤◌, List, ◌++◌, length, take, drop};
 ghost use Rattle.book.specs.Rows.{Sorted};
 ghost use Rattle.book.specs.Queue.{Seg, is_of};
 ghost use Rattle.book.specs.Due.{count as counted};
-ghost use Rattle.rows.specs.Table.{row_in, rows_of, rows_in};
+ghost use Rattle.rows.specs.Model.{rows_of};
 ghost use Rattle.rows.specs.Segments.{IsRange, within, Ends, Run, Shared};
 
-use crate::parts::{Part, copy_part, remove_part};
-use crate::row::RowKey;
-use crate::table::find;
+use crate::row::{RowKey, RowWords};
+use crate::table::{Rows, find};
+use std::ops::Range;
 
 // Keys from `low` on, below `high` if there is one.
 #[derive(Clone, Copy)]
@@ -19,79 +20,52 @@ pub struct KeyRange {
 }
 
 // How many rows are below the upper end of a range.
-fn end_of(words: &[u64], count: usize, high: Option<RowKey>) -> usize
-    requires room { 4 * count ≤ length words.now }
-    requires sorted { Sorted (rows_of count words.now) }
-    ensures { Ends high (row_in words.now) count result }
+fn end_of(rows: &[RowWords], high: Option<RowKey>) -> usize
+    requires { Sorted (rows_of rows.now) }
+    ensures { Ends high (rows_of rows.now) result }
 {
     match high {
-        Some(key) => find(words, count, key).place,
-        None => count,
+        Some(key) => find(rows, key).place,
+        None => rows.len(),
     }
 }
 
 // All rows whose keys are in a range, by halving.
-pub fn rows_within(words: &[u64], count: usize, range: KeyRange) -> Part
-    requires room { 4 * count ≤ length words.now }
-    requires sorted { Sorted (rows_of count words.now) }
-    ensures run { Run (within range) (row_in words.now) count result.start result.end }
-    ensures many { (i : ℕ) (segments : List Seg) → IsRange range i segments → result.end - result.start ≡ counted (is_of i segments) (rows_of count words.now) }
+pub fn rows_within(rows: &[RowWords], range: KeyRange) -> Range<usize>
+    requires { Sorted (rows_of rows.now) }
+    ensures run { Run (within range) (rows_of rows.now) result.start result.end }
+    ensures many { (i : ℕ) (segments : List Seg) → IsRange range i segments → result.end - result.start ≡ counted (is_of i segments) (rows_of rows.now) }
 {
-    let start = find(words, count, range.low).place;
-    let end = end_of(words, count, range.high);
-    if end < start {
-        return Part { start, end: start };
-    }
-    Part { start, end }
+    let start = find(rows, range.low).place;
+    let end = end_of(rows, range.high);
+    start..end.max(start)
 }
 
 // A segment's share: the first rows whose keys are in its range, at most so many.
-pub fn share(words: &[u64], count: usize, range: KeyRange, most: usize) -> Part
-    requires room { 4 * count ≤ length words.now }
-    requires sorted { Sorted (rows_of count words.now) }
+pub fn share(rows: &[RowWords], range: KeyRange, most: usize) -> Range<usize>
+    requires { Sorted (rows_of rows.now) }
     ensures order { result.start ≤ result.end }
-    ensures within { result.end ≤ count }
+    ensures within { result.end ≤ length rows.now }
     ensures few { result.end - result.start ≤ most }
-    ensures shared { Shared range most (rows_of count words.now) (rows_in result words.now) (take result.start (rows_of count words.now) ++ drop result.end (rows_of count words.now)) }
+    ensures shared { Shared range most (rows_of rows.now) (drop result.start (take result.end (rows_of rows.now))) (take result.start (rows_of rows.now) ++ drop result.end (rows_of rows.now)) }
 {
-    let all = rows_within(words, count, range);
-    if all.end - all.start <= most {
-        return all;
-    }
-    Part {
-        start: all.start,
-        end: all.start + most,
-    }
+    let all = rows_within(rows, range);
+    let count = (all.end - all.start).min(most);
+    all.start..all.start + count
 }
 
-// How many rows were moved out of a table, and how many are left in it.
-#[derive(Clone, Copy)]
-pub struct Moved {
-    pub moved: usize,
-    pub left: usize,
-}
-
-// Moves a segment's share out of a table, to the beginning of another.
-pub fn take_share(
-    words: &mut [u64],
-    count: usize,
-    range: KeyRange,
-    most: usize,
-    to: &mut [u64],
-) -> Moved
-    requires whole { 4 * count ≤ length words.old }
-    requires sorted { Sorted (rows_of count words.old) }
-    requires room { 4 * most ≤ length to.old }
-    ensures few { result.moved ≤ most }
-    ensures all { result.moved + result.left ≡ count }
-    ensures shared { Shared range most (rows_of count words.old) (rows_of result.moved to.new) (rows_of result.left words.new) }
-    ensures sorted { (Sorted (rows_of result.moved to.new)) × (Sorted (rows_of result.left words.new)) }
-{
-    let part = share(words, count, range, most);
-    copy_part(words, part, to);
-    let left = remove_part(words, count, part);
-    Moved {
-        moved: part.end - part.start,
-        left,
+impl<'a> Rows<'a> {
+    // Moves a segment's share out, in place of all rows of another table.
+    pub fn take_share(&mut self, range: KeyRange, most: usize, to: &mut Rows<'_>)
+        requires { most ≤ to.old.room }
+        ensures few { length to.new.items ≤ most }
+        ensures all { length to.new.items + length self.new.items ≡ length self.old.items }
+        ensures shared { Shared range most self.old.items to.new.items self.new.items }
+        ensures room { (self.new.room ≡ self.old.room) × (to.new.room ≡ to.old.room) }
+    {
+        let rows = self.as_slice();
+        let part = share(rows, range, most);
+        to.assign(&rows[part.start..part.end]);
+        self.remove_range(part);
     }
 }

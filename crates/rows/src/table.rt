@@ -1,50 +1,26 @@
-// A table: the first `count` rows in words that are lent, row i in words[4 * i .. 4 * i + 4] as end, stage, key, value.
-// What is called here requires room and sorted rows of its caller, the code that keeps the tables and their counts: it has
-// proved both, so that nothing is tested twice.
-ghost use Rattle.std.specs.Prelude.{◌≡◌, ◌+◌, ◌*◌, ◌^◌, ◌≤◌, ◌&&◌, length, nat_lt};
-ghost use Rattle.book.specs.Rows.{eqk, Sorted, add as added};
+// Sorted rows in memory that is lent.
+// What is called here requires room of its caller, the code that lends the memory: it has proved it, so that nothing is
+// tested twice.
+ghost use Rattle.std.specs.Prelude.{◌≡◌, ◌+◌, ◌*◌, ◌^◌, ◌<◌, ◌≤◌, ◌++◌, length, take, drop};
+ghost use Rattle.book.specs.Rows.{Sorted, add as added, onto};
 ghost use Rattle.book.specs.Words.{write_all, write_row};
-ghost use Rattle.rows.specs.Model.{key_of, row_of, aggregates_of};
-ghost use Rattle.rows.specs.Table.{row_in, rows_of, Put, Shifted, Splits};
+ghost use Rattle.rows.specs.Model.{key_of, row_of, rows_of, aggregates_of};
+ghost use Rattle.rows.specs.Search.{Splits, HeldAt};
 
-use crate::row::{Row, RowKey, StageNumber, aggregate_of, join};
-use plans::numbers::{Key, Time, Value};
+use crate::row::{Row, RowKey, RowWords, aggregate_of, join};
 use plans::stages::Stage;
+use std::marker::Model;
+use std::ops::Range;
+use tables::Table;
 
-pub fn row_at(words: &[u64], i: usize) -> Row
-    requires { 4 * i + 4 ≤ length words.now }
-    ensures { row_of result ≡ row_in words.now i }
+// The words of rows, which are what the book writes of them to a page.
+pub fn words_of(rows: &[RowWords]) -> &[u64]
+    ensures { result.now ≡ write_all write_row (rows_of rows.now) }
 {
-    let at = RowKey {
-        end: Time(words[4 * i]),
-        stage: StageNumber(words[4 * i + 1]),
-        key: Key(words[4 * i + 2]),
-    };
-    Row {
-        at,
-        value: Value(words[4 * i + 3]),
-    }
+    rows.as_flattened()
 }
 
-pub fn set_row(words: &mut [u64], i: usize, row: Row)
-    requires { 4 * i + 4 ≤ length words.old }
-    ensures { Put (row_in words.old) (row_in words.new) i (row_of row) }
-{
-    words[4 * i] = row.at.end.0;
-    words[4 * i + 1] = row.at.stage.0;
-    words[4 * i + 2] = row.at.key.0;
-    words[4 * i + 3] = row.value.0;
-}
-
-// The words of a table's rows, which are what the book writes of them to a page.
-pub fn words_of(words: &[u64], count: usize) -> &[u64]
-    requires { 4 * count ≤ length words.now }
-    ensures { result.now ≡ write_all write_row (rows_of count words.now) }
-{
-    &words[..4 * count]
-}
-
-// Where a key stands in a table, and how many rows were read to find it.
+// Where a key stands among rows, and how many of them were read to find it.
 #[derive(Clone, Copy)]
 pub struct Found {
     pub place: usize,
@@ -52,20 +28,20 @@ pub struct Found {
 }
 
 // How many rows stand before a key, by halving: it reads at most one row more than the binary logarithm of their number.
-pub fn find(words: &[u64], count: usize, key: RowKey) -> Found
-    requires room { 4 * count ≤ length words.now }
-    requires sorted { Sorted (rows_of count words.now) }
-    ensures place { Splits (key_of key) (row_in words.now) count result.place }
-    ensures read { 2 ^ result.read ≤ 2 * count + 1 }
+// The library's `partition_point` halves too, but its contract does not say how often it reads.
+pub fn find(rows: &[RowWords], key: RowKey) -> Found
+    requires sorted { Sorted (rows_of rows.now) }
+    ensures place { Splits (key_of key) (rows_of rows.now) result.place }
+    ensures read { 2 ^ result.read ≤ 2 * length rows.now + 1 }
 {
     let mut low = 0;
-    let mut high = count;
+    let mut high = rows.len();
     let mut read = 0;
     while low < high {
         let mid = low + (high - low) / 2;
-        let row = row_at(words, mid);
+        let row = Row::from(rows[mid]);
         read += 1;
-        if row.at.is_before(key) {
+        if row.at < key {
             low = mid + 1;
         } else {
             high = mid;
@@ -74,40 +50,109 @@ pub fn find(words: &[u64], count: usize, key: RowKey) -> Found
     Found { place: low, read }
 }
 
-// Is row i one of the table's, of this key.
-fn holds(words: &[u64], count: usize, i: usize, key: RowKey) -> bool
-    requires { 4 * count ≤ length words.now }
-    ensures { result ≡ (nat_lt i count && eqk (key_of key) (row_in words.now i).at) }
+// The row of a key, if it stands at i.
+fn row_at(rows: &[RowWords], i: usize, key: RowKey) -> Option<Row>
+    ensures { HeldAt (key_of key) (rows_of rows.now) i result }
 {
-    i < count && key.is_same(row_at(words, i).at)
+    let row = Row::from(*rows.get(i)?);
+    (key == row.at).then_some(row)
 }
 
-// Moves the rows from i on one place up.
-fn shift(words: &mut [u64], count: usize, i: usize)
-    requires order { i ≤ count }
-    requires room { 4 * count + 4 ≤ length words.old }
-    ensures { Shifted (row_in words.old) (row_in words.new) i count }
-{
-    words.copy_within(4 * i..4 * count, 4 * i + 4);
+#[derive(Drop)]
+pub struct Rows<'a> {
+    pub(crate) table: Table<'a, RowWords>,
 }
 
-// Adds a row, joined with the one of its key if there is one: how many rows there are then.
-pub fn add(words: &mut [u64], count: usize, row: Row, stages: &[Stage]) -> usize
-    requires room { 4 * count + 4 ≤ length words.old }
-    requires sorted { Sorted (rows_of count words.old) }
-    ensures rows { rows_of result words.new ≡ added (aggregates_of stages.now) (row_of row) (rows_of count words.old) }
-    ensures few { result ≤ count + 1 }
-    ensures sorted { Sorted (rows_of result words.new) }
-{
-    let at = find(words, count, row.at).place;
-    if holds(words, count, at, row.at) {
-        let old = row_at(words, at);
-        let how = aggregate_of(stages, old.at.stage);
-        let value = join(how, old.value, row.value);
-        set_row(words, at, Row { at: old.at, value });
-        return count;
+impl<'a> Model for Rows<'a> {
+    ghost use Rattle.book.specs.Rows.{Row, Sorted};
+    ghost use Rattle.tables.specs.Lent.{Lent};
+    ghost use Rattle.rows.specs.Model.{rows_of};
+
+    ghost Value = { Lent Row };
+
+    ghost view = { λ t. record { items = rows_of t.table.items; room = t.table.room } };
+
+    ghost invariant = { λ t. Sorted (rows_of t.table.items) };
+}
+
+impl<'a> Rows<'a> {
+    // Memory whose first rows, so many, are these.
+    pub fn new(slots: &'a mut [RowWords], count: usize) -> Self
+        requires whole { count ≤ length slots.old }
+        requires sorted { Sorted (rows_of (take count slots.old)) }
+        ensures items { result.items ≡ rows_of (take count slots.old) }
+        ensures room { result.room ≡ length slots.old }
+    {
+        Rows {
+            table: Table::new(slots, count),
+        }
     }
-    shift(words, count, at);
-    set_row(words, at, row);
-    count + 1
+
+    pub fn as_slice(&self) -> &[RowWords]
+        ensures rows { rows_of result.now ≡ self.now.items }
+        ensures sorted { Sorted (rows_of result.now) }
+    {
+        self.table.as_slice()
+    }
+
+    // Other rows in place of all.
+    pub fn assign(&mut self, from: &[RowWords])
+        requires room { length from.now ≤ self.old.room }
+        requires sorted { Sorted (rows_of from.now) }
+        ensures rows { self.new.items ≡ rows_of from.now }
+        ensures room { self.new.room ≡ self.old.room }
+    {
+        self.table.assign(from);
+    }
+
+    // Adds a row, joined with the one of its key if there is one.
+    pub fn add(&mut self, row: Row, stages: &[Stage])
+        requires { length self.old.items < self.old.room }
+        ensures rows { self.new.items ≡ added (aggregates_of stages.now) (row_of row) self.old.items }
+        ensures few { length self.new.items ≤ length self.old.items + 1 }
+        ensures room { self.new.room ≡ self.old.room }
+    {
+        let rows = self.table.as_slice();
+        let place = find(rows, row.at).place;
+        match row_at(rows, place, row.at) {
+            Some(old) => {
+                let how = aggregate_of(stages, old.at.stage);
+                let value = join(how, old.value, row.value);
+                self.table.set(place, Row { value, ..old }.into());
+            }
+            None => self.table.insert_from_slice(place, &[row.into()]),
+        }
+    }
+
+    // Adds rows, the last first.
+    pub fn merge(&mut self, from: &[RowWords], stages: &[Stage])
+        requires { length self.old.items + length from.now ≤ self.old.room }
+        ensures rows { self.new.items ≡ onto (aggregates_of stages.now) (rows_of from.now) self.old.items }
+        ensures few { length self.new.items ≤ length self.old.items + length from.now }
+        ensures room { self.new.room ≡ self.old.room }
+    {
+        for words in from.iter().rev() {
+            self.add(Row::from(*words), stages);
+        }
+    }
+
+    pub fn remove_range(&mut self, range: Range<usize>)
+        requires order { range.start ≤ range.end }
+        requires within { range.end ≤ length self.old.items }
+        ensures rows { self.new.items ≡ take range.start self.old.items ++ drop range.end self.old.items }
+        ensures room { self.new.room ≡ self.old.room }
+    {
+        self.table.remove_range(range);
+    }
+
+    // Cuts rows in two: those from `at` on are moved to another table.
+    pub fn split_off(&mut self, at: usize, upper: &mut Rows<'_>)
+        requires within { at ≤ length self.old.items }
+        requires room { length self.old.items ≤ at + upper.old.room }
+        ensures lower { self.new.items ≡ take at self.old.items }
+        ensures upper { upper.new.items ≡ drop at self.old.items }
+        ensures room { (self.new.room ≡ self.old.room) × (upper.new.room ≡ upper.old.room) }
+    {
+        self.table.split_off(at, &mut upper.table);
+    }
 }

@@ -1,4 +1,4 @@
-use Rattle.std.proofs.Common.{◌≡◌, ℕ, zero, suc, ◌<◌, ◌≤◌, List, [], ◌∷◌, length, get_or, refl, arith}
+use Rattle.std.proofs.Common.{◌≡◌, ℕ, zero, suc, ◌<◌, ◌≤◌, List, [], ◌∷◌, length, get_or, refl, ap, ◌∙◌, arith}
 use Rattle.streams.specs.Meaning as spec
 use Rattle.book.specs.Flow.{how_of}
 use Rattle.plans.specs.declared.stages.Stage.{Stage}
@@ -18,8 +18,10 @@ past [] i h = refl
 past (st ∷ sts) zero h = absurd (omega arith)
 past (st ∷ sts) (suc i) h = past sts i (omega arith)
 
-pub returns-then-i-stages : goal.returns-then-i-stages
-returns-then-i-stages c = at c.args.stages.now c.args.stage.0 c.index-stages-i.result (omega arith)
+pub returns-in-Some : goal.returns-in-Some
+returns-in-Some c =
+    let e = c.in-Some.ensures.lookup.3 in
+    ap (λ (st : Stage). as_sum st.aggregate) (e.1 c.in-Some.stage.now) ∙ at c.args.stages.now c.args.stage.0 c.in-Some.stage.now e.0
 
-pub returns-else-i-stages : goal.returns-else-i-stages
-returns-else-i-stages c = past c.args.stages.now c.args.stage.0 (omega arith)
+pub returns-in-None : goal.returns-in-None
+returns-in-None c = past c.args.stages.now c.args.stage.0 c.in-None.ensures.lookup.3

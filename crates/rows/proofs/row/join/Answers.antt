@@ -15,18 +15,10 @@ summed how a b (inr e) = rw e refl
 pub returns-in-Count : goal.returns-in-Count
 returns-in-Count c = summed c.args.how c.args.a.0 c.args.b.0 c.in-Count.is
 
-pub returns-then-b-a : goal.returns-then-b-a
+pub returns-in-Least : goal.returns-in-Least
 unfolding put
-returns-then-b-a c = grind (arith, nat_tests)
+returns-in-Least c = rw (c.min.ensures, c.in-Least.is) (grind (arith, nat_tests))
 
-pub returns-else-b-a : goal.returns-else-b-a
+pub returns-in-Greatest : goal.returns-in-Greatest
 unfolding put
-returns-else-b-a c = grind (arith, nat_tests)
-
-pub returns-then-a-b : goal.returns-then-a-b
-unfolding put
-returns-then-a-b c = grind (arith, nat_tests)
-
-pub returns-else-a-b : goal.returns-else-a-b
-unfolding put
-returns-else-a-b c = grind (arith, nat_tests)
+returns-in-Greatest c = rw (c.max.ensures, c.in-Greatest.is) (grind (arith, nat_tests))
