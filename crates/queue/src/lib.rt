@@ -1,79 +1,56 @@
-// The ledger's queue in three lent slices of words: rows of the front, rows of the buffer, segments. The counts, the source
-// and the next page's number are in a header that is handed on by value.
+// The ledger's queue in memory that is lent: rows of the front, rows of the buffer, segments.
 // Every definition that a contract cites is that of the crate `book`, by way of specs/Model. What is called here requires
-// room and sorted rows of its caller, the code that keeps the slices: it has proved both.
+// room of its caller, the code that lends the memory: it has proved it.
 #![tactic(auto)]
 
-ghost use Rattle.std.specs.Prelude.{◌≡◌, ℕ, ◌+◌, ◌*◌, ◌≤◌, length};
+ghost use Rattle.std.specs.Prelude.{◌≡◌, ◌+◌, ◌<◌, ◌≤◌, length};
 ghost use Rattle.book.specs.Queue.{goes_up, place as placed};
 ghost use Rattle.rows.specs.Model.{key_of, row_of, aggregates_of};
-ghost use Rattle.segs.specs.Table.{segs_of};
-ghost use Rattle.queue.specs.Model.{queue_in, Ready, Holds};
+ghost use Rattle.segs.specs.Model.{segs_of};
+ghost use Rattle.queue.specs.Model.{queue_of, SameRoom};
 
 use plans::stages::Stage;
 use rows::row::{Row, RowKey};
-use rows::table::add;
-use segs::segment::{Link, PageNumber};
-use segs::table::seg_at;
+use rows::table::Rows;
+use segs::segment::{PageNumber, Segment, SegmentWords, Segments};
 
-#[derive(Clone, Copy)]
-pub struct Header {
-    // how many rows are in the front and in the buffer, and how many segments there are
-    pub front: usize,
-    pub buffer: usize,
-    pub segments: usize,
+#[derive(Drop)]
+pub struct Queue<'a> {
+    pub front: Rows<'a>,
+    pub buffer: Rows<'a>,
+    pub segments: Segments<'a>,
     // the row page whose rows are placed next
-    pub source: Link,
+    pub source: Option<PageNumber>,
     // the number that the next page will have
     pub next: PageNumber,
 }
 
 // Is a key at the first segment's low or above.
-pub fn is_up(segments: &[u64], count: usize, key: RowKey) -> bool
-    requires { 6 * count ≤ length segments.now }
-    ensures { result ≡ goes_up (segs_of count segments.now) (key_of key) }
+pub fn is_up(segments: &[SegmentWords], key: RowKey) -> bool
+    ensures { result ≡ goes_up (segs_of segments.now) (key_of key) }
 {
-    if count == 0 {
-        return false;
+    match segments {
+        [] => false,
+        [first, ..] => Segment::from(*first).low <= key,
     }
-    let first = seg_at(segments, 0);
-    !key.is_before(first.low)
 }
 
-// A row into the front or the buffer.
-pub fn place(
-    front: &mut [u64],
-    buffer: &mut [u64],
-    segments: &[u64],
-    header: Header,
-    row: Row,
-    stages: &[Stage],
-) -> Header
-    requires ready { Ready front.old buffer.old segments.now header }
-    requires front { 4 * header.front + 4 ≤ length front.old }
-    requires buffer { 4 * header.buffer + 4 ≤ length buffer.old }
-    ensures holds { Holds front.new buffer.new segments.now result (placed (aggregates_of stages.now) (row_of row) (queue_in front.old buffer.old segments.now header)) }
-    ensures few { result.front + result.buffer ≤ header.front + header.buffer + 1 }
-    ensures front { result.front ≤ header.front + 1 }
-    ensures buffer { result.buffer ≤ header.buffer + 1 }
-    ensures segments { result.segments ≡ header.segments }
-{
-    if is_up(segments, header.segments, row.at) {
-        let count = add(buffer, header.buffer, row, stages);
-        return Header {
-            front: header.front,
-            buffer: count,
-            segments: header.segments,
-            source: header.source,
-            next: header.next,
-        };
-    }
-    let count = add(front, header.front, row, stages);
-    Header {
-        front: count,
-        buffer: header.buffer,
-        segments: header.segments,
-        source: header.source,
-        next: header.next,
+impl<'a> Queue<'a> {
+    // A row into the front or the buffer.
+    pub fn place(&mut self, row: Row, stages: &[Stage])
+        requires front { length self.old.front.items < self.old.front.room }
+        requires buffer { length self.old.buffer.items < self.old.buffer.room }
+        ensures queue { queue_of self.new ≡ placed (aggregates_of stages.now) (row_of row) (queue_of self.old) }
+        ensures few { length self.new.front.items + length self.new.buffer.items ≤ length self.old.front.items + length self.old.buffer.items + 1 }
+        ensures front { length self.new.front.items ≤ length self.old.front.items + 1 }
+        ensures buffer { length self.new.buffer.items ≤ length self.old.buffer.items + 1 }
+        ensures segments { self.new.segments ≡ self.old.segments }
+        ensures room { SameRoom self.old self.new }
+    {
+        if is_up(self.segments.as_slice(), row.at) {
+            self.buffer.add(row, stages);
+        } else {
+            self.front.add(row, stages);
+        }
     }
 }

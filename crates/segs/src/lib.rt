@@ -1,6 +1,5 @@
-// Segments of the queue in words that are lent: tables of six 64-bit words a segment, by rising low.
-// Every definition that a contract cites is that of the crate `book`, by way of specs/Model and specs/Table.
+// Segments of the queue: by value, and as the six 64-bit words that each is in memory that is lent.
+// Every definition that a contract cites is that of the crate `book`, by way of specs/Model.
 #![tactic(auto)]
 
 pub mod segment;
-pub mod table;

@@ -1,15 +1,17 @@
-use native.Mathlib.Omega.{arith}
-use mathlib.Core.Path.{ap, ◌∙◌}
-use mathlib.Core.Bool.{not}
+use Rattle.std.proofs.Common.{◌≡◌, not, ◌∙◌, arith}
+use Rattle.std.proofs.lemmas.Bool.Decides.{nat_tests}
 use Rattle.book.specs.Rows.{ltk}
-use Rattle.book.specs.Queue.{Seg}
 use Rattle.rows.specs.Model.{key_of}
-use Rattle.segs.specs.Table.{seg_in}
+use Rattle.segs.specs.Model.{seg_of}
 use Rattle.queue.proofs.Places.{up_none, up_first}
 use Rattle.queue.proofs.is_up.Goals as goal
 
-pub returns-then-count-eq0 : goal.returns-then-count-eq0
-returns-then-count-eq0 c = up_none (seg_in c.args.segments.now) c.args.count (key_of c.args.key) (omega arith)
+pub returns-in-empty : goal.returns-in-empty
+returns-in-empty c = up_none c.args.segments.now (key_of c.args.key) (omega arith)
 
-pub returns : goal.returns
-returns c = ap not c.is_before.ensures ∙ ap (λ (s : Seg). not (ltk (key_of c.args.key) s.low)) c.seg_at-first.ensures ∙ up_first (seg_in c.args.segments.now) c.args.count (key_of c.args.key) (omega arith)
+low : (c : goal.After-le) → c.le.result ≡ not (ltk (key_of c.args.key) (seg_of c.from.result).low)
+unfolding ltk
+low c = grind (arith, nat_tests)
+
+pub returns-in-len1-up : goal.returns-in-len1-up
+returns-in-len1-up c = low c ∙ up_first c.args.segments.now (key_of c.args.key) (seg_of c.from.result) _ (omega arith) c.from.ensures
