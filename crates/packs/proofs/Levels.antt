@@ -1,21 +1,11 @@
--- Levels of listed segments, counted from the last one on, and the first that is crowded.
-use Rattle.std.proofs.Common.{◌≡◌, ℕ, suc, ◌+◌, ◌-◌, ◌<◌, ◌≤◌, List, ◌∷◌, drop, sym, refl, ap, ◌∙◌, arith}
+-- Levels of segments, counted so far, and the first that is crowded.
+-- Assumes nothing.
+use Rattle.std.proofs.Common.{◌≡◌, ℕ, suc, ◌+◌, ◌<◌, ◌≤◌, List, ◌∷◌, length, get_or, drop, sym, refl, ap, ◌∙◌, arith}
 use Rattle.std.proofs.lemmas.Bool.{eq-eqb, ne_eqb, lt-ltb, le-ltb}
+use Rattle.std.proofs.lemmas.List.{drop_more, drop_all, drop-map}
 use Rattle.book.specs.Queue.{Seg}
 use Rattle.book.specs.Due.{at_level, below_level, calm, crowded, crowd}
-use Rattle.rows.specs.Table.{listed}
-use Rattle.rows.proofs.Ranges.{drop_listed, drop_none}
-
--- from the i-th segment on
-abbrev pub below_from : ℕ → (ℕ → Seg) → (n i : ℕ) → ℕ
-below_from v f n i = below_level v (drop i (listed f n))
-
-abbrev pub at_from : ℕ → (ℕ → Seg) → (n i : ℕ) → ℕ
-at_from v f n i = at_level v (drop i (listed f n))
-
-pub tally_none : (v : ℕ) (f : ℕ → Seg) (n : ℕ) → (0 ≡ below_from v f n n) × (0 ≡ at_from v f n n)
-unfolding below_level at_level
-tally_none v f n = (ap (below_level v) (sym (drop_none f n)), ap (at_level v) (sym (drop_none f n)))
+use Rattle.segs.specs.Model.{seg_in, segs_of}
 
 below_more : (v : ℕ) (s : Seg) (ss : List Seg) → s.level < v → (below_level v (s ∷ ss) ≡ suc (below_level v ss)) × (at_level v (s ∷ ss) ≡ at_level v ss)
 unfolding below_level at_level
@@ -29,31 +19,41 @@ none_more : (v : ℕ) (s : Seg) (ss : List Seg) → v < s.level → (below_level
 unfolding below_level at_level
 none_more v s ss h = (rw (le-ltb s.level v (omega (arith, h))) refl, rw (ne_eqb s.level v (λ e. omega (arith, h, e))) refl)
 
-back_one : (i : ℕ) → 0 < i → suc (i - 1) ≡ i
-back_one i h = omega arith
+-- the segment at a place, and those behind it
+there : (slots : List (List ℕ)) (i : ℕ) (d : List ℕ) (s : Seg) → i < length slots → s ≡ seg_in (get_or slots i d) → segs_of (drop i slots) ≡ s ∷ segs_of (drop (i + 1) slots)
+there slots i d s lt e = ap segs_of (drop_more slots i d lt) ∙ ap (λ (x : Seg). x ∷ segs_of (drop (i + 1) slots)) (sym e)
 
--- one segment more, of a lower level, of this one, of a higher one
-first_of : (f : ℕ → Seg) (n i : ℕ) → 0 < i → i ≤ n → drop (i - 1) (listed f n) ≡ f (i - 1) ∷ drop i (listed f n)
-first_of f n i h le = drop_listed f n (i - 1) (omega arith) ∙ ap (λ (k : ℕ). f (i - 1) ∷ drop k (listed f n)) (back_one i h)
+pub behind : (slots was : List (List ℕ)) (i : ℕ) (d : List ℕ) (s : Seg) → was ≡ slots → i < length slots → s ≡ seg_in (get_or was i d) → drop i (segs_of slots) ≡ s ∷ segs_of (drop (i + 1) slots)
+behind slots was i d s is lt e = drop-map seg_in i slots ∙ there slots i d s lt (e ∙ ap (λ (ws : List (List ℕ)). seg_in (get_or ws i d)) is)
 
-pub turn_below : (v : ℕ) (f : ℕ → Seg) (n i b a : ℕ) → 0 < i → i ≤ n → (f (i - 1)).level < v → b ≡ below_from v f n i → a ≡ at_from v f n i → (b + 1 ≡ below_from v f n (i - 1)) × (a ≡ at_from v f n (i - 1))
-turn_below v f n i b a h le l p q = let r = below_more v (f (i - 1)) (drop i (listed f n)) l in (omega (arith, p, r.0, ap (below_level v) (first_of f n i h le)), omega (arith, q, r.1, ap (at_level v) (first_of f n i h le)))
+-- one segment on: below is b more, and at is a more
+pub record Step (v : ℕ) (slots : List (List ℕ)) (i b a : ℕ) : Type 0 where
+  pub below : below_level v (segs_of (drop i slots)) ≡ b + below_level v (segs_of (drop (i + 1) slots))
+  pub at : at_level v (segs_of (drop i slots)) ≡ a + at_level v (segs_of (drop (i + 1) slots))
 
-pub turn_at : (v : ℕ) (f : ℕ → Seg) (n i b a : ℕ) → 0 < i → i ≤ n → (f (i - 1)).level ≡ v → b ≡ below_from v f n i → a ≡ at_from v f n i → (b ≡ below_from v f n (i - 1)) × (a + 1 ≡ at_from v f n (i - 1))
-turn_at v f n i b a h le l p q = let r = at_more v (f (i - 1)) (drop i (listed f n)) l in (omega (arith, p, r.0, ap (below_level v) (first_of f n i h le)), omega (arith, q, r.1, ap (at_level v) (first_of f n i h le)))
+pub step_below : (v : ℕ) (slots : List (List ℕ)) (i : ℕ) (d : List ℕ) (s : Seg) → i < length slots → s ≡ seg_in (get_or slots i d) → s.level < v → Step v slots i 1 0
+step_below v slots i d s lt e h = let m = below_more v s (segs_of (drop (i + 1) slots)) h in let t = there slots i d s lt e in record { below = ap (below_level v) t ∙ omega (arith, m.0); at = ap (at_level v) t ∙ omega (arith, m.1) }
 
-pub turn_none : (v : ℕ) (f : ℕ → Seg) (n i b a : ℕ) → 0 < i → i ≤ n → v < (f (i - 1)).level → b ≡ below_from v f n i → a ≡ at_from v f n i → (b ≡ below_from v f n (i - 1)) × (a ≡ at_from v f n (i - 1))
-turn_none v f n i b a h le l p q = let r = none_more v (f (i - 1)) (drop i (listed f n)) l in (omega (arith, p, r.0, ap (below_level v) (first_of f n i h le)), omega (arith, q, r.1, ap (at_level v) (first_of f n i h le)))
+pub step_at : (v : ℕ) (slots : List (List ℕ)) (i : ℕ) (d : List ℕ) (s : Seg) → i < length slots → s ≡ seg_in (get_or slots i d) → s.level ≡ v → Step v slots i 0 1
+step_at v slots i d s lt e h = let m = at_more v s (segs_of (drop (i + 1) slots)) h in let t = there slots i d s lt e in record { below = ap (below_level v) t ∙ omega (arith, m.0); at = ap (at_level v) t ∙ omega (arith, m.1) }
 
--- crowds, from the i-th segment on
-pub crowd_none : (z : ℕ) (f : ℕ → Seg) (n : ℕ) → crowd z (listed f n) (drop n (listed f n)) ≡ calm
+pub step_none : (v : ℕ) (slots : List (List ℕ)) (i : ℕ) (d : List ℕ) (s : Seg) → i < length slots → s ≡ seg_in (get_or slots i d) → v < s.level → Step v slots i 0 0
+step_none v slots i d s lt e h = let m = none_more v s (segs_of (drop (i + 1) slots)) h in let t = there slots i d s lt e in record { below = ap (below_level v) t ∙ omega (arith, m.0); at = ap (at_level v) t ∙ omega (arith, m.1) }
+
+pub none_left : (v : ℕ) (slots : List (List ℕ)) (i : ℕ) → length slots ≤ i → (below_level v (segs_of (drop i slots)) ≡ 0) × (at_level v (segs_of (drop i slots)) ≡ 0)
+unfolding below_level at_level
+none_left v slots i h = (rw (drop_all i slots h) refl, rw (drop_all i slots h) refl)
+
+-- crowds
+pub crowd_none : (z : ℕ) (all : List Seg) (slots : List (List ℕ)) (i : ℕ) → length slots ≤ i → crowd z all (segs_of (drop i slots)) ≡ calm
 unfolding crowd
-crowd_none z f n = ap (crowd z (listed f n)) (drop_none f n)
+crowd_none z all slots i h = rw (drop_all i slots h) refl
 
-pub crowd_here : (z : ℕ) (f : ℕ → Seg) (n i : ℕ) → i < n → z < at_level (f i).level (listed f n) → crowd z (listed f n) (drop i (listed f n)) ≡ crowded (f i).level
+pub crowd_here : (z : ℕ) (all : List Seg) (slots : List (List ℕ)) (i : ℕ) (d : List ℕ) (s : Seg) → i < length slots → s ≡ seg_in (get_or slots i d) → z < at_level s.level all → crowd z all (segs_of (drop i slots)) ≡ crowded s.level
 unfolding crowd
-crowd_here z f n i h m = ap (crowd z (listed f n)) (drop_listed f n i h) ∙ rw (lt-ltb z (at_level (f i).level (listed f n)) m) refl
+crowd_here z all slots i d s lt e m = ap (crowd z all) (there slots i d s lt e) ∙ rw (lt-ltb z (at_level s.level all) m) refl
 
-pub crowd_next : (z : ℕ) (f : ℕ → Seg) (n i : ℕ) → i < n → at_level (f i).level (listed f n) ≤ z → crowd z (listed f n) (drop i (listed f n)) ≡ crowd z (listed f n) (drop (suc i) (listed f n))
+pub crowd_next : (z : ℕ) (all : List Seg) (slots : List (List ℕ)) (i : ℕ) (d : List ℕ) (s : Seg) → i < length slots → s ≡ seg_in (get_or slots i d) → at_level s.level all ≤ z
+    → crowd z all (segs_of (drop i slots)) ≡ crowd z all (segs_of (drop (i + 1) slots))
 unfolding crowd
-crowd_next z f n i h m = ap (crowd z (listed f n)) (drop_listed f n i h) ∙ rw (le-ltb z (at_level (f i).level (listed f n)) m) refl
+crowd_next z all slots i d s lt e m = ap (crowd z all) (there slots i d s lt e) ∙ rw (le-ltb z (at_level s.level all) m) refl

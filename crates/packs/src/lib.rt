@@ -1,135 +1,94 @@
 // Index pages: too many segments of one level become a page and one segment of the next level, and come back when that
 // segment is the first.
-// What is called here requires room of its caller, the code that keeps the slices: it has proved it.
+// What is called here requires room of its caller, the code that lends the memory: it has proved it.
 #![tactic(auto)]
 
-ghost use Rattle.std.specs.Prelude.{◌≡◌, ℕ, suc, ◌+◌, ◌*◌, ◌<◌, ◌≤◌, List, length};
+ghost use Rattle.std.specs.Prelude.{◌≡◌, suc, ◌+◌, ◌<◌, ◌≤◌, length};
 ghost use Rattle.streams.specs.Meaning.{top};
-ghost use Rattle.book.specs.Queue.{IndexPage, After, unpack as unpacked};
+ghost use Rattle.book.specs.Queue.{IndexPage, unpack as unpacked};
 ghost use Rattle.book.specs.Due.{at_level, below_level, crowd};
-ghost use Rattle.queue.specs.Model.{queue_in};
-ghost use Rattle.segs.specs.Table.{seg_in, segs_of};
-ghost use Rattle.packs.specs.Model.{crowd_of, Packs};
+ghost use Rattle.queue.specs.Model.{queue_of, SameRoom};
+ghost use Rattle.segs.specs.Model.{segs_of};
+ghost use Rattle.packs.specs.Model.{crowd_of, LevelsFit, Packs};
 
-use queue::Header;
-use rows::parts::Part;
-use segs::segment::{Level, Link, PageNumber, Segment};
-use segs::table::{copy_part, insert, prepend, remove_part, seg_at};
+use queue::Queue;
+use segs::segment::{Level, PageNumber, Segment, SegmentWords, Segments};
+use std::cmp::Ordering;
 
 // How many segments there are below a level, and of it.
-#[derive(Clone, Copy)]
+#[derive(Clone, Copy, PartialEq, Eq, Debug)]
 pub struct Tally {
     pub below: usize,
     pub at: usize,
 }
 
-pub fn count_levels(segments: &[u64], count: usize, level: Level) -> Tally
-    requires { 6 * count ≤ length segments.now }
-    ensures below { result.below ≡ below_level level.0 (segs_of count segments.now) }
-    ensures at { result.at ≡ at_level level.0 (segs_of count segments.now) }
-    ensures few { result.below + result.at ≤ count }
+pub fn count_levels(segments: &[SegmentWords], level: Level) -> Tally
+    ensures below { result.below ≡ below_level level.0 (segs_of segments.now) }
+    ensures at { result.at ≡ at_level level.0 (segs_of segments.now) }
+    ensures few { result.below + result.at ≤ length segments.now }
 {
-    let mut below = 0;
-    let mut at = 0;
-    let mut i = count;
-    while i > 0 {
-        i -= 1;
-        let found = seg_at(segments, i).level;
-        if found.0 < level.0 {
-            below += 1;
-        } else if found.0 == level.0 {
-            at += 1;
+    let mut counts = Tally { below: 0, at: 0 };
+    for words in segments {
+        match Segment::from(*words).level.cmp(&level) {
+            Ordering::Less => counts.below += 1,
+            Ordering::Equal => counts.at += 1,
+            Ordering::Greater => {}
         }
     }
-    Tally { below, at }
+    counts
 }
 
 // The first level with more segments than there should be.
-pub fn crowded(segments: &[u64], count: usize, most: usize) -> Option<Level>
-    requires { 6 * count ≤ length segments.now }
-    ensures { crowd_of result ≡ crowd most (segs_of count segments.now) (segs_of count segments.now) }
+pub fn crowded(segments: &[SegmentWords], most: usize) -> Option<Level>
+    ensures { crowd_of result ≡ crowd most (segs_of segments.now) (segs_of segments.now) }
 {
-    for i in 0..count {
-        let level = seg_at(segments, i).level;
-        if count_levels(segments, count, level).at > most {
+    for words in segments {
+        let level = Segment::from(*words).level;
+        if count_levels(segments, level).at > most {
             return Some(level);
         }
     }
     None
 }
 
-// The queue's header after segments became an index page, and how many there are in the page.
-#[derive(Clone, Copy)]
-pub struct Packed {
-    pub header: Header,
-    pub count: usize,
-}
-
 // The upper half of a level's segments becomes the index page with the next number, and one segment of the next level in
-// their place. The page's segments are written to the front of `page`, and are never more than `most`.
-pub fn pack(
-    segments: &mut [u64],
-    header: Header,
-    level: Level,
-    most: usize,
-    page: &mut [u64],
-) -> Packed
-    requires whole { 6 * header.segments ≤ length segments.old }
-    requires room { 6 * most ≤ length page.old }
+// their place. The page's segments are those of `page` then, and are never more than `most`.
+pub fn pack(queue: &mut Queue<'_>, level: Level, most: usize, page: &mut Segments<'_>)
+    requires room { most ≤ page.old.room }
     requires most { 1 ≤ most }
-    requires some { 1 ≤ at_level level.0 (segs_of header.segments segments.old) }
-    requires next { suc header.next.0 < top }
-    requires levels { (j : ℕ) → j < header.segments → suc (seg_in segments.old j).level < top }
-    ensures { Packs most level.0 segments.old header segments.new page.new result }
+    requires some { 1 ≤ at_level level.0 (queue_of queue.old).segments }
+    requires next { suc queue.old.next.0 < top }
+    requires levels { LevelsFit (queue_of queue.old).segments }
+    ensures packs { Packs most level.0 queue.old queue.new page.new }
+    ensures room { SameRoom queue.old queue.new × (page.new.room ≡ page.old.room) }
 {
-    let counts = count_levels(segments, header.segments, level);
+    let segments = queue.segments.as_slice();
+    let counts = count_levels(segments, level);
     let start = counts.below + counts.at / 2;
-    let half = counts.at - counts.at / 2;
-    let count = if most < half { most } else { half };
-    let part = Part {
-        start,
-        end: start + count,
-    };
-    let first = seg_at(segments, start);
-    copy_part(segments, part, page);
-    let left = remove_part(segments, header.segments, part);
+    let end = start + (counts.at - counts.at / 2).min(most);
+    let first = Segment::from(segments[start]);
     let whole = Segment {
-        low: first.low,
-        index: Link::Page(header.next),
-        head: Link::None,
+        index: Some(queue.next),
+        head: None,
         level: Level(first.level.0 + 1),
+        ..first
     };
-    insert(segments, left, start, whole);
-    let after = Header {
-        front: header.front,
-        buffer: header.buffer,
-        segments: left + 1,
-        source: header.source,
-        next: PageNumber(header.next.0 + 1),
-    };
-    Packed {
-        header: after,
-        count,
-    }
+    page.assign(&segments[start..end]);
+    queue.segments.remove_range(start..end);
+    queue.segments.insert_from_slice(start, &[whole.to_words()]);
+    queue.next = PageNumber(queue.next.0 + 1);
 }
 
 // The first segment is an index page's: its segments come back in its place, and its own row pages are the source.
-pub fn unpack(segments: &mut [u64], header: Header, page: &[u64], count: usize) -> Header
-    requires some { 1 ≤ header.segments }
-    requires whole { 6 * count ≤ length page.now }
-    requires room { 6 * (header.segments + count) ≤ length segments.old }
-    ensures queue { (f b : List ℕ) → queue_in f b segments.new result ≡ (unpacked (IndexPage (segs_of count page.now)) (queue_in f b segments.old header)).queue }
-    ensures segments { result.segments + 1 ≡ header.segments + count }
+pub fn unpack(queue: &mut Queue<'_>, page: &[SegmentWords])
+    requires some { 1 ≤ length queue.old.segments.items }
+    requires room { length queue.old.segments.items + length page.now ≤ queue.old.segments.room }
+    ensures queue { queue_of queue.new ≡ (unpacked (IndexPage (segs_of page.now)) (queue_of queue.old)).queue }
+    ensures segments { length queue.new.segments.items + 1 ≡ length queue.old.segments.items + length page.now }
+    ensures room { SameRoom queue.old queue.new }
 {
-    let first = seg_at(segments, 0);
-    let part = Part { start: 0, end: 1 };
-    let left = remove_part(segments, header.segments, part);
-    prepend(segments, left, page, count);
-    Header {
-        front: header.front,
-        buffer: header.buffer,
-        segments: count + left,
-        source: first.head,
-        next: header.next,
-    }
+    let first = Segment::from(queue.segments.as_slice()[0]);
+    queue.segments.remove_range(0..1);
+    queue.segments.insert_from_slice(0, page);
+    queue.source = first.head;
 }

@@ -91,6 +91,7 @@ impl<'a> Rows<'a> {
     pub fn as_slice(&self) -> &[RowWords]
         ensures rows { rows_of result.now ≡ self.now.items }
         ensures sorted { Sorted (rows_of result.now) }
+        ensures fits { length self.now.items ≤ self.now.room }
     {
         self.table.as_slice()
     }

@@ -37,7 +37,8 @@ impl<'a, T: Copy> Table<'a, T> {
     }
 
     pub fn as_slice(&self) -> &[T]
-        ensures { result.now ≡ self.now.items }
+        ensures items { result.now ≡ self.now.items }
+        ensures fits { length self.now.items ≤ self.now.room }
     {
         &self.slots[..self.count]
     }

@@ -1,102 +1,80 @@
-use Rattle.std.proofs.Common.{◌≡◌, ℕ, suc, ◌+◌, ◌-◌, ◌/◌, ◌≤◌, List, [], ◌∷◌, ◌++◌, take, drop, sym, ap, ◌∙◌, arith}
+use Rattle.std.proofs.Common.{◌≡◌, ℕ, suc, ◌+◌, ◌-◌, ◌/◌, ◌≤◌, List, [], ◌∷◌, ◌++◌, length, take, drop, sym, ap, ◌∙◌, arith}
+use Rattle.std.proofs.lemmas.List.{take-map, drop-map}
 use Rattle.book.specs.Queue as book
 use Rattle.book.specs.Due.{Sizes, at_level, below_level, pack_many}
-use Rattle.segs.specs.Model.{seg_of, page_link}
-use Rattle.segs.specs.Table.{seg_in, segs_of}
-use Rattle.rows.specs.Table.{rows_of}
-use Rattle.segs.specs.declared.segment.Link.TheVariants.{None, Page}
-use Rattle.queue.specs.declared.Header.{Header}
-use Rattle.queue.specs.Model.{queue_in}
+use Rattle.segs.specs.Model.{seg_in, seg_of, segs_of}
+use Rattle.queue.specs.Model.{queue_of}
 use Rattle.packs.specs.Model.{packing}
-use Rattle.packs.proofs.Packing.{pack_is, put_where, listed_long, many_most, many_half}
-use Rattle.packs.proofs.pack.Goals.{then-most-half, else-most-half}
+use Rattle.packs.proofs.Levels.{behind}
+use Rattle.packs.proofs.Packing.{over, pack_is, put_seg, level_fits, many}
 use Rattle.packs.proofs.pack.Goals as goal
 
-pub returns : goal.returns
-returns c = record { queue = queue; writes = writes }
+pub overflow_add-whole : goal.overflow_add-whole
+overflow_add-whole c =
+    let at = rw c.as_slice-segments.ensures.items at c.count_levels-counts.ensures.at in
+    let few = rw c.as_slice-segments.ensures.items at c.count_levels-counts.ensures.few in
+    let b = behind c.args.queue.now.segments.items _ _ _ (seg_of c.from-first.result) c.as_slice-segments.ensures.items (omega (arith, at, few, c.requires.some)) c.from-first.ensures in
+    let l = level_fits _ _ _ _ c.requires.levels b in omega (arith, l)
+
+pub returns-clause-packs : goal.returns-clause-packs
+returns-clause-packs c = record { queue = queue; writes = writes }
   where
-    v : ℕ
-    v = c.args.level.0
+    q : book.Queue
+    q = queue_of c.args.queue.now
 
-    old : List ℕ
-    old = c.args.segments.now
-
-    n : ℕ
-    n = c.args.header.segments
-
-    at : ℕ
-    at = at_level v (segs_of n old)
-
-    below : ℕ
-    below = below_level v (segs_of n old)
+    w : List (List ℕ)
+    w = c.args.queue.now.segments.items
 
     i : ℕ
     i = c.count_levels-counts.result.below + c.count_levels-counts.result.at / 2
 
     k : ℕ
-    k = c.if-most-half.count
+    k = c.min.result
 
-    i-is : i ≡ below + at / 2
-    i-is = ap (λ (b : ℕ). b + c.count_levels-counts.result.at / 2) c.count_levels-counts.ensures.below ∙ ap (λ (a : ℕ). below + a / 2) c.count_levels-counts.ensures.at
+    s : book.Seg
+    s = seg_of c.from-first.result
 
-    k-is : (z : Sizes) → z.segments ≡ c.args.most → k ≡ pack_many z at
-    k-is z e = elim c.if-most-half.branch [
-      | then-most-half w ↦ w.count-is ∙ sym (many_most z at c.args.most e (omega (arith, w.if-most-half, c.count_levels-counts.ensures.at)))
-      | else-most-half w ↦ w.count-is ∙ ap (λ (a : ℕ). a - a / 2) c.count_levels-counts.ensures.at ∙ sym (many_half z at c.args.most e (omega (arith, w.if-most-half, c.count_levels-counts.ensures.at)))
-    ]
+    at : c.count_levels-counts.result.at ≡ at_level c.args.level.0 q.segments
+    at = rw c.as_slice-segments.ensures.items at c.count_levels-counts.ensures.at
+
+    below : c.count_levels-counts.result.below ≡ below_level c.args.level.0 q.segments
+    below = rw c.as_slice-segments.ensures.items at c.count_levels-counts.ensures.below
+
+    few : c.count_levels-counts.result.below + c.count_levels-counts.result.at ≤ length w
+    few = rw c.as_slice-segments.ensures.items at c.count_levels-counts.ensures.few
 
     some : 1 ≤ k
-    some = elim c.if-most-half.branch [
-      | then-most-half w ↦ omega (arith, w.count-is, c.requires.most)
-      | else-most-half w ↦ omega (arith, w.count-is, c.requires.some, c.count_levels-counts.ensures.at)
-    ]
+    some = omega (arith, c.min.ensures, at, c.requires.some, c.requires.most)
 
-    within : i + k ≤ n
-    within = elim c.if-most-half.branch [
-      | then-most-half w ↦ omega (arith, w.count-is, w.if-most-half, c.count_levels-counts.ensures.few)
-      | else-most-half w ↦ omega (arith, w.count-is, c.count_levels-counts.ensures.few)
-    ]
+    is : (z : Sizes) → z.segments ≡ c.args.most → packing z c.args.level.0 q ≡ record { queue = record q { segments = take i q.segments ++ (over s q.next ∷ drop (i + k) q.segments); next = suc q.next }; writes = record { number = q.next; content = book.IndexPage (take k (drop i q.segments)) } ∷ [] }
+    is z e =
+        ap (λ (b : ℕ). book.pack (b + at_level c.args.level.0 q.segments / 2) (pack_many z (at_level c.args.level.0 q.segments)) q) (sym below)
+        ∙ ap (λ (a : ℕ). book.pack (c.count_levels-counts.result.below + a / 2) (pack_many z a) q) (sym at)
+        ∙ ap (λ (n : ℕ). book.pack i n q) (many z c.count_levels-counts.result.at c.args.most k e c.min.ensures)
+        ∙ pack_is q i k s _ some (behind w _ i _ s c.as_slice-segments.ensures.items (omega (arith, few, at, c.requires.some)) c.from-first.ensures)
 
-    whole : (z : Sizes) → z.segments ≡ c.args.most → (f b : List ℕ) → packing z v f b old c.args.header ≡ book.pack i k (queue_in f b old c.args.header)
-    whole z e f b = ap (λ (j : ℕ). book.pack j (pack_many z at) (queue_in f b old c.args.header)) (sym i-is) ∙ ap (λ (j : ℕ). book.pack i j (queue_in f b old c.args.header)) (sym (k-is z e))
+    next : c.args.queue.now.next.0 + 1 ≡ suc c.args.queue.now.next.0
+    next = omega arith
 
-    first : seg_of c.seg_at-first.result ≡ seg_in old i
-    first = c.seg_at-first.ensures
+    up : s.level + 1 ≡ suc s.level
+    up = omega arith
 
-    one : (x : ℕ) → x + 1 ≡ suc x
-    one x = omega arith
+    segments : segs_of c.insert_from_slice.new.self.items ≡ take i q.segments ++ (over s q.next ∷ drop (i + k) q.segments)
+    segments =
+        ap segs_of (c.insert_from_slice.ensures.items ∙ ap (λ (xs : List (List ℕ)). take i xs ++ ((c.to_words.result ∷ []) ++ drop i xs)) c.remove_range.ensures.items)
+        ∙ put_seg w (drop (i + k) w) i c.to_words.result (over s q.next) (omega (arith, few, at, c.requires.some)) (c.to_words.ensures ∙ ap (λ (n : ℕ). record { low = s.low; index = book.page q.next; head = book.nil; level = n }) up)
+        ∙ ap (λ (ss : List book.Seg). take i q.segments ++ (over s q.next ∷ ss)) (sym (drop-map seg_in (i + k) w))
 
-    whole_is : seg_of (record { low = c.seg_at-first.result.low; index = Page c.args.header.next; head = None; level = record { 0 = c.seg_at-first.result.level.0 + 1 } }) ≡ record { low = (seg_in old i).low; index = book.page c.args.header.next.0; head = book.nil; level = suc (seg_in old i).level }
-    whole_is = λ j. record { low = (first j).low; index = book.page c.args.header.next.0; head = book.nil; level = (one c.seg_at-first.result.level.0 ∙ ap (λ (x : book.Seg). suc x.level) first) j }
+    queue : (z : Sizes) → z.segments ≡ c.args.most → queue_of (record { front = c.args.queue.now.front; buffer = c.args.queue.now.buffer; segments = c.insert_from_slice.new.self; source = c.args.queue.now.source; next = record { 0 = c.args.queue.now.next.0 + 1 } }) ≡ (packing z c.args.level.0 q).queue
+    queue z e = rw (segments, next) (sym (ap (λ (a : book.After). a.queue) (is z e)))
 
-    segs : segs_of (c.remove_part-left.result + 1) c.insert.new.words ≡ take i (segs_of n old) ++ (record { low = (seg_in old i).low; index = book.page c.args.header.next.0; head = book.nil; level = suc (seg_in old i).level } ∷ drop (i + k) (segs_of n old))
-    segs =
-        c.insert.ensures
-        ∙ ap (λ (xs : List book.Seg). take i xs ++ (seg_of (record { low = c.seg_at-first.result.low; index = Page c.args.header.next; head = None; level = record { 0 = c.seg_at-first.result.level.0 + 1 } }) ∷ drop i xs)) c.remove_part-left.ensures.segments
-        ∙ put_where (segs_of n old) (drop (i + k) (segs_of n old)) i _ (listed_long (seg_in old) n i (omega (arith, within)))
-        ∙ ap (λ (x : book.Seg). take i (segs_of n old) ++ (x ∷ drop (i + k) (segs_of n old))) whole_is
+    long : (i + k) - i ≡ k
+    long = omega arith
 
-    done : (z : Sizes) → z.segments ≡ c.args.most → (f b : List ℕ) →
-        packing z v f b old c.args.header
-        ≡ record {
-          queue = record { front = rows_of c.args.header.front f; buffer = rows_of c.args.header.buffer b; segments = take i (segs_of n old) ++ (record { low = (seg_in old i).low; index = book.page c.args.header.next.0; head = book.nil; level = suc (seg_in old i).level } ∷ drop (i + k) (segs_of n old)); source = page_link c.args.header.source; next = suc c.args.header.next.0 };
-          writes = record { number = c.args.header.next.0; content = book.IndexPage (drop i (segs_of (i + k) old)) } ∷ [];
-        }
-    done z e f b = whole z e f b ∙ pack_is (seg_in old) n i k (rows_of c.args.header.front f) (rows_of c.args.header.buffer b) (page_link c.args.header.source) c.args.header.next.0 some within
+    page : segs_of c.assign.new.self.items ≡ take k (drop i q.segments)
+    page =
+        ap segs_of (c.assign.ensures.items ∙ ap (λ (xs : List (List ℕ)). take ((i + k) - i) (drop i xs)) c.as_slice-segments.ensures.items ∙ ap (λ (n : ℕ). take n (drop i w)) long)
+        ∙ sym (ap (take k) (drop-map seg_in i w) ∙ take-map seg_in k (drop i w))
 
-    after : Header
-    after = record { front = c.args.header.front; buffer = c.args.header.buffer; segments = c.remove_part-left.result + 1; source = c.args.header.source; next = record { 0 = c.args.header.next.0 + 1 } }
-
-    queue : (z : Sizes) → z.segments ≡ c.args.most → (f b : List ℕ) → queue_in f b c.insert.new.words after ≡ (packing z v f b old c.args.header).queue
-    queue z e f b =
-        (λ j. record { front = rows_of c.args.header.front f; buffer = rows_of c.args.header.buffer b; segments = segs j; source = page_link c.args.header.source; next = one c.args.header.next.0 j })
-        ∙ sym (ap (λ (a : book.After). a.queue) (done z e f b))
-
-    writes : (z : Sizes) → z.segments ≡ c.args.most → (f b : List ℕ) → (packing z v f b old c.args.header).writes ≡ record { number = c.args.header.next.0; content = book.IndexPage (segs_of k c.copy_part.new.to) } ∷ []
-    writes z e f b = ap (λ (a : book.After). a.writes) (done z e f b) ∙ ap (λ (ss : List book.Seg). record { number = c.args.header.next.0; content = book.IndexPage ss } ∷ []) (sym page-is)
-      where
-        long : (i + k) - i ≡ k
-        long = omega arith
-
-        page-is : segs_of k c.copy_part.new.to ≡ drop i (segs_of (i + k) old)
-        page-is = ap (λ (j : ℕ). segs_of j c.copy_part.new.to) (sym long) ∙ c.copy_part.ensures
+    writes : (z : Sizes) → z.segments ≡ c.args.most → (packing z c.args.level.0 q).writes ≡ record { number = q.next; content = book.IndexPage (segs_of c.assign.new.self.items) } ∷ []
+    writes z e = rw page (ap (λ (a : book.After). a.writes) (is z e))
