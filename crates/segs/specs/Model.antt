@@ -1,6 +1,6 @@
 -- What the values of the code, and the words of segments in memory, stand for in the definitions of the book.
 -- Assumes nothing.
-use Rattle.std.specs.Prelude.{ℕ, List, suc, ◌<◌, map, slice_index, Option, Some, None}
+use Rattle.std.specs.Prelude.{◌≡◌, ℕ, List, suc, ◌<◌, map, slice_index, Option, Some, None}
 use Rattle.streams.specs.Meaning.{top}
 use Rattle.book.specs.Queue as book
 use Rattle.book.specs.Words.{link_of}
@@ -31,3 +31,9 @@ seg_in ws = record {
 
 abbrev pub segs_of : List (List ℕ) → List book.Seg
 segs_of slots = map seg_in slots
+
+-- the segment is the one in the words, and fits words again
+pub record IsIn (words : List ℕ) (s : Segment) : Type 0 where
+  pub is : seg_of s ≡ seg_in words
+  pub index : LinkFits s.index
+  pub head : LinkFits s.head

@@ -2,7 +2,7 @@
 // memory. Words are made only of page numbers that, with one added, are words: the caller has proved it.
 ghost use Rattle.std.specs.Prelude.{◌≡◌};
 ghost use Rattle.book.specs.Words.{link_word, link_of};
-ghost use Rattle.segs.specs.Model.{page_link, LinkFits, seg_of, seg_in};
+ghost use Rattle.segs.specs.Model.{page_link, LinkFits, seg_of, seg_in, IsIn};
 
 use plans::numbers::{Key, Time};
 use rows::row::{RowKey, StageNumber};
@@ -47,7 +47,7 @@ pub fn link_from_word(word: u64) -> Option<PageNumber>
 }
 
 impl From<SegmentWords> for Segment {
-    ghost from_gives = { λ words segment. seg_of segment ≡ seg_in words };
+    ghost from_gives = { IsIn };
 
     fn from(words: SegmentWords) -> Segment {
         let [end, stage, key, index, head, level] = words;

@@ -1,2 +1,2 @@
 mod Joins
-mod Segments
+mod Places

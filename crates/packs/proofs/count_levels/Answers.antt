@@ -35,9 +35,9 @@ loop-words-preserved c = record { below = m.below; at = m.at; few = m.few }
 
     m : More c
     m = elim c.match-cmp.branch [
-      | in-Less w ↦ more c 1 0 (omega arith) (step_below v c.args.segments.now c.loop-words.words-index _ (seg_of c.from.result) (omega arith) c.from.ensures (ranked _ v Less w.in-Less.ensures)) (w.counts-is ∙ (λ i. record { below = one c.loop-words.counts.below i; at = none c.loop-words.counts.at i }))
-      | in-Equal w ↦ more c 0 1 (omega arith) (step_at v c.args.segments.now c.loop-words.words-index _ (seg_of c.from.result) (omega arith) c.from.ensures (ranked _ v Equal w.in-Equal.ensures)) (w.counts-is ∙ (λ i. record { below = none c.loop-words.counts.below i; at = one c.loop-words.counts.at i }))
-      | in-Greater w ↦ more c 0 0 (omega arith) (step_none v c.args.segments.now c.loop-words.words-index _ (seg_of c.from.result) (omega arith) c.from.ensures (ranked _ v Greater w.in-Greater.ensures)) (w.counts-is ∙ (λ i. record { below = none c.loop-words.counts.below i; at = none c.loop-words.counts.at i }))
+      | in-Less w ↦ more c 1 0 (omega arith) (step_below v c.args.segments.now c.loop-words.words-index _ (seg_of c.from.result) (omega arith) c.from.ensures.is (ranked _ v Less w.in-Less.ensures)) (w.counts-is ∙ (λ i. record { below = one c.loop-words.counts.below i; at = none c.loop-words.counts.at i }))
+      | in-Equal w ↦ more c 0 1 (omega arith) (step_at v c.args.segments.now c.loop-words.words-index _ (seg_of c.from.result) (omega arith) c.from.ensures.is (ranked _ v Equal w.in-Equal.ensures)) (w.counts-is ∙ (λ i. record { below = none c.loop-words.counts.below i; at = one c.loop-words.counts.at i }))
+      | in-Greater w ↦ more c 0 0 (omega arith) (step_none v c.args.segments.now c.loop-words.words-index _ (seg_of c.from.result) (omega arith) c.from.ensures.is (ranked _ v Greater w.in-Greater.ensures)) (w.counts-is ∙ (λ i. record { below = none c.loop-words.counts.below i; at = none c.loop-words.counts.at i }))
     ]
 
 pub returns-clause-below : goal.returns-clause-below

@@ -13,7 +13,7 @@ pub overflow_add-whole : goal.overflow_add-whole
 overflow_add-whole c =
     let at = rw c.as_slice-segments.ensures.items at c.count_levels-counts.ensures.at in
     let few = rw c.as_slice-segments.ensures.items at c.count_levels-counts.ensures.few in
-    let b = behind c.args.queue.now.segments.items _ _ _ (seg_of c.from-first.result) c.as_slice-segments.ensures.items (omega (arith, at, few, c.requires.some)) c.from-first.ensures in
+    let b = behind c.args.queue.now.segments.items _ _ _ (seg_of c.from-first.result) c.as_slice-segments.ensures.items (omega (arith, at, few, c.requires.some)) c.from-first.ensures.is in
     let l = level_fits _ _ _ _ c.requires.levels b in omega (arith, l)
 
 pub returns-clause-packs : goal.returns-clause-packs
@@ -51,7 +51,7 @@ returns-clause-packs c = record { queue = queue; writes = writes }
         ap (λ (b : ℕ). book.pack (b + at_level c.args.level.0 q.segments / 2) (pack_many z (at_level c.args.level.0 q.segments)) q) (sym below)
         ∙ ap (λ (a : ℕ). book.pack (c.count_levels-counts.result.below + a / 2) (pack_many z a) q) (sym at)
         ∙ ap (λ (n : ℕ). book.pack i n q) (many z c.count_levels-counts.result.at c.args.most k e c.min.ensures)
-        ∙ pack_is q i k s _ some (behind w _ i _ s c.as_slice-segments.ensures.items (omega (arith, few, at, c.requires.some)) c.from-first.ensures)
+        ∙ pack_is q i k s _ some (behind w _ i _ s c.as_slice-segments.ensures.items (omega (arith, few, at, c.requires.some)) c.from-first.ensures.is)
 
     next : c.args.queue.now.next.0 + 1 ≡ suc c.args.queue.now.next.0
     next = omega arith

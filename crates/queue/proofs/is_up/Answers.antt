@@ -14,4 +14,4 @@ unfolding ltk
 low c = grind (arith, nat_tests)
 
 pub returns-in-len1-up : goal.returns-in-len1-up
-returns-in-len1-up c = low c ∙ up_first c.args.segments.now (key_of c.args.key) (seg_of c.from.result) _ (omega arith) c.from.ensures
+returns-in-len1-up c = low c ∙ up_first c.args.segments.now (key_of c.args.key) (seg_of c.from.result) _ (omega arith) c.from.ensures.is

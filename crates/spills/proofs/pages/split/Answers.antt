@@ -1,16 +1,16 @@
-use Rattle.std.proofs.Common.{◌≡◌, ℕ, ◌-◌, ◌/◌, take, drop, sym, ap, ◌∙◌, arith}
-use Rattle.rows.specs.Table.{row_in, rows_of}
-use Rattle.rows.proofs.Ranges.{length_listed, take_listed}
+use Rattle.std.proofs.Common.{◌/◌, take, drop, length, sym, ap, ◌∙◌}
+use Rattle.std.proofs.lemmas.List.{length-map, take-map}
+use Rattle.rows.specs.Model.{row_in, rows_of}
+use Rattle.rows.proofs.Parts.{sorted_left}
 use Rattle.spills.proofs.pages.split.Goals as goal
 
-pub returns : goal.returns
-returns c =
-    let n = c.args.count in
-    let f = row_in c.args.upper.now in
-    let long = length_listed f n in
-    let half : (n / 2) - 0 ≡ n / 2 = omega arith in (
-      ap (λ (k : ℕ). rows_of k c.copy_part.new.to) (sym half) ∙ c.copy_part.ensures.rows ∙ sym (take_listed f n (n / 2) (omega arith)) ∙ ap (λ (k : ℕ). take (k / 2) (rows_of n c.args.upper.now)) (sym long),
-      c.remove_part-high.ensures.rows ∙ ap (λ (k : ℕ). drop (k / 2) (rows_of n c.args.upper.now)) (sym long),
-      omega (arith, long),
-      omega (arith, long, c.remove_part-high.ensures.count),
+pub assign-requires-clause-sorted : goal.assign-requires-clause-sorted
+assign-requires-clause-sorted c = let rows = c.as_slice-rows.result.now in rw (← take-map row_in (length rows / 2) rows) (sorted_left (length rows / 2) (rows_of rows) c.as_slice-rows.ensures.sorted)
+
+pub returns-clause-halves : goal.returns-clause-halves
+returns-clause-halves c =
+    let rows = c.as_slice-rows.result.now in
+    let long = sym (length-map rows row_in) ∙ ap length c.as_slice-rows.ensures.rows in (
+      c.assign.ensures.rows ∙ sym (take-map row_in (length rows / 2) rows) ∙ ap (take (length rows / 2)) c.as_slice-rows.ensures.rows ∙ ap (λ n. take (n / 2) c.args.pages.now.upper.items) long,
+      c.remove_range.ensures.rows ∙ ap (λ n. drop (n / 2) c.args.pages.now.upper.items) long,
     )
