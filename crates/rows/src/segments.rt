@@ -11,6 +11,7 @@ ghost use Rattle.rows.specs.Segments.{IsRange, within, Ends, Run, Shared};
 use crate::row::{RowKey, RowWords};
 use crate::table::{Rows, find};
 use std::ops::Range;
+use tables::Table;
 
 // Keys from `low` on, below `high` if there is one.
 #[derive(Clone, Copy)]
@@ -55,12 +56,13 @@ pub fn share(rows: &[RowWords], range: KeyRange, most: usize) -> Range<usize>
 }
 
 impl<'a> Rows<'a> {
-    // Moves a segment's share out, in place of all rows of another table.
-    pub fn take_share(&mut self, range: KeyRange, most: usize, to: &mut Rows<'_>)
+    // Moves a segment's share out, in place of all that is in another table.
+    pub fn take_share(&mut self, range: KeyRange, most: usize, to: &mut Table<'_, RowWords>)
         requires { most ≤ to.old.room }
         ensures few { length to.new.items ≤ most }
         ensures all { length to.new.items + length self.new.items ≡ length self.old.items }
-        ensures shared { Shared range most self.old.items to.new.items self.new.items }
+        ensures shared { Shared range most self.old.items (rows_of to.new.items) self.new.items }
+        ensures sorted { Sorted (rows_of to.new.items) }
         ensures room { (self.new.room ≡ self.old.room) × (to.new.room ≡ to.old.room) }
     {
         let rows = self.as_slice();

@@ -11,6 +11,7 @@ use plans::stages::Stage;
 use rows::row::RowWords;
 use rows::table::Rows;
 use segs::segment::{PageNumber, Segment};
+use tables::Table;
 
 // A row page that is shown: the page below it, and its rows.
 #[derive(Clone, Copy)]
@@ -22,7 +23,7 @@ pub struct Shown<'a> {
 // Memory for the pages that are written: the first, and the second where rows are too many for one.
 #[derive(Drop)]
 pub struct Pages<'a> {
-    pub out: Rows<'a>,
+    pub out: Table<'a, RowWords>,
     pub upper: Rows<'a>,
 }
 
@@ -36,7 +37,7 @@ pub enum Spilt {
 // Two pages of rows in `upper` that are too many for one: the lower half to `out`, the upper half is left.
 fn split(pages: &mut Pages<'_>)
     requires { length pages.old.upper.items ≤ 2 * pages.old.out.room }
-    ensures halves { Halves pages.old.upper.items pages.new.out.items pages.new.upper.items }
+    ensures halves { Halves pages.old.upper.items (rows_of pages.new.out.items) pages.new.upper.items }
     ensures room { SamePages pages.old pages.new }
 {
     let rows = pages.upper.as_slice();
@@ -61,8 +62,8 @@ pub fn join_page(
     requires moved { length pages.old.out.items ≤ size }
     requires shown { length shown.rows.now ≤ size }
     requires sorted { Sorted (rows_of shown.rows.now) }
-    ensures is { (n : ℕ) → spilt_of n (seg_of segment) pages.new.out.items pages.new.upper.items result ≡ spill_by (aggregates_of stages.now) size n (RowPage (page_link shown.entry.below) (rows_of shown.entry.rows.now)) (page_link segment.head) (seg_of segment) pages.old.out.items }
-    ensures few { Few size pages.new.out.items pages.new.upper.items result }
+    ensures is { (n : ℕ) → spilt_of n (seg_of segment) (rows_of pages.new.out.items) pages.new.upper.items result ≡ spill_by (aggregates_of stages.now) size n (RowPage (page_link shown.entry.below) (rows_of shown.entry.rows.now)) (page_link segment.head) (seg_of segment) (rows_of pages.old.out.items) }
+    ensures few { Few size (rows_of pages.new.out.items) pages.new.upper.items result }
     ensures room { SamePages pages.old pages.new }
 {
     if segment.head.is_none() {

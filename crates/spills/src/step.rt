@@ -77,8 +77,8 @@ pub fn spill(
     requires upper { 2 * size ≤ pages.old.upper.room }
     requires shown { length shown.rows.now ≤ size }
     requires sorted { Sorted (rows_of shown.rows.now) }
-    ensures spills { Spills (aggregates_of stages.now) size i (RowPage (page_link shown.entry.below) (rows_of shown.entry.rows.now)) queue.old queue.new pages.new.out.items pages.new.upper.items result }
-    ensures few { Few size pages.new.out.items pages.new.upper.items result }
+    ensures spills { Spills (aggregates_of stages.now) size i (RowPage (page_link shown.entry.below) (rows_of shown.entry.rows.now)) queue.old queue.new (rows_of pages.new.out.items) pages.new.upper.items result }
+    ensures few { Few size (rows_of pages.new.out.items) pages.new.upper.items result }
     ensures buffer { length queue.new.buffer.items ≤ length queue.old.buffer.items }
     ensures segments { length queue.new.segments.items ≤ length queue.old.segments.items + 1 }
     ensures room { SameRoom queue.old queue.new × SamePages pages.old pages.new }

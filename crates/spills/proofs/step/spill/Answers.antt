@@ -32,7 +32,7 @@ returns-clause-spills c = record { queue = queue; writes = writes }
     moved = book.pick c.args.size (book.is_of i ss) c.args.queue.now.buffer.items
 
     o : List Row
-    o = c.join_page-spilt.new.pages.out.items
+    o = rows_of c.join_page-spilt.new.pages.out.items
 
     u : List Row
     u = c.join_page-spilt.new.pages.upper.items

@@ -1,13 +1,16 @@
+use Rattle.std.proofs.Common.{◌≡◌, take, drop, ap, ◌∙◌, subst, sym}
+use Rattle.book.specs.Rows.{Sorted}
+use Rattle.rows.specs.Model.{rows_of}
 use Rattle.rows.proofs.Parts.{part_rows, sorted_left}
 use Rattle.rows.proofs.Places.{sorted_right}
 use Rattle.rows.proofs.table.Rows.take_share.Goals as goal
 
-pub assign-requires-clause-sorted : goal.assign-requires-clause-sorted
-assign-requires-clause-sorted c =
-    let p = c.share-part.result in
-    rw (part_rows c.as_slice-rows.result.now p.start p.end) (sorted_right p.start _ (sorted_left p.end _ c.as_slice-rows.ensures.sorted))
+-- what is moved
+part : (c : goal.After-remove_range) → rows_of c.assign.new.self.items ≡ drop c.share-part.result.start (take c.share-part.result.end (rows_of c.as_slice-rows.result.now))
+part c = ap rows_of c.assign.ensures.items ∙ part_rows c.as_slice-rows.result.now c.share-part.result.start c.share-part.result.end
+
+pub returns-clause-sorted : goal.returns-clause-sorted
+returns-clause-sorted c = subst Sorted (sym (part c)) (sorted_right c.share-part.result.start _ (sorted_left c.share-part.result.end _ c.as_slice-rows.ensures.sorted))
 
 pub returns-clause-shared : goal.returns-clause-shared
-returns-clause-shared c =
-    let p = c.share-part.result in
-    rw (c.assign.ensures.rows, part_rows c.as_slice-rows.result.now p.start p.end, c.remove_range.ensures.rows, ← c.as_slice-rows.ensures.rows) c.share-part.ensures.shared
+returns-clause-shared c = rw (part c, c.remove_range.ensures.rows, ← c.as_slice-rows.ensures.rows) c.share-part.ensures.shared
