@@ -63,11 +63,10 @@ pub fn pass_on(stages: &[Stage], row: Row) -> Onward
 {
     let event = event_of(row);
     let next = row.at.stage.0.saturating_add(1);
-    let i = next as usize;
-    if i >= stages.len() {
+    let Some(stage) = stages.get(next as usize) else {
         return Onward::Out(event);
-    }
-    match row_of(&stages[i], StageNumber(next), event) {
+    };
+    match row_of(stage, StageNumber(next), event) {
         Some(row) => Onward::On(row),
         None => Onward::Gone,
     }

@@ -50,27 +50,27 @@ sized [] i d h lt = absurd (omega arith)
 sized (st ∷ sts) zero d h lt = h.0
 sized (st ∷ sts) (suc i) d h lt = sized sts i d h.1 (omega arith)
 
-pub returns-then-i-stages : goal.returns-then-i-stages
-returns-then-i-stages c = out c.args.stages.now (row_of c.args.row) c.event_of-event.result (omega arith) c.event_of-event.ensures
+pub returns-in_default : goal.returns-in_default
+returns-in_default c = out c.args.stages.now (row_of c.args.row) c.event_of-event.result (omega (arith, c.in_default.ensures.lookup.3)) c.event_of-event.ensures
 
 pub row_of-requires : goal.row_of-requires
 row_of-requires c =
-    let d = c.index-stages-i.result in
-    let z = sized c.args.stages.now c.saturating_add-next.result d c.requires c.if-i-stages.false in
-    subst (λ (x : Stage). 0 < x.size.0) (sym c.index-stages-i.is) z
+    let e = c.in-Some.ensures.lookup.3 in
+    let d = c.in-Some.stage.now in
+    subst (λ (x : Stage). 0 < x.size.0) (sym (e.1 d)) (sized c.args.stages.now c.saturating_add-next.result d c.requires e.0)
 
-pub returns-in-Some : goal.returns-in-Some
-returns-in-Some c =
-    let d = c.index-stages-i.result in
+pub returns-in-Some-row_of : goal.returns-in-Some-row_of
+returns-in-Some-row_of c =
+    let e = c.in-Some.ensures.lookup.3 in
+    let d = c.in-Some.stage.now in
     let i = c.saturating_add-next.result in
-    let e = c.event_of-event.result in
-    on c.args.stages.now (row_of c.args.row) i d e (On c.in-Some.row) (omega arith) c.if-i-stages.false c.index-stages-i.is c.event_of-event.ensures
-    (λ rest. entered (stage_of d) i rest (as_event e) c.in-Some.row c.in-Some.ensures)
+    on c.args.stages.now (row_of c.args.row) i d c.event_of-event.result (On c.in-Some-row_of.row) (omega (arith, e.0)) e.0 (e.1 d) c.event_of-event.ensures
+    (λ rest. entered (stage_of d) i rest (as_event c.event_of-event.result) c.in-Some-row_of.row c.in-Some-row_of.ensures)
 
 pub returns-in-None : goal.returns-in-None
 returns-in-None c =
-    let d = c.index-stages-i.result in
+    let e = c.in-Some.ensures.lookup.3 in
+    let d = c.in-Some.stage.now in
     let i = c.saturating_add-next.result in
-    let e = c.event_of-event.result in
-    on c.args.stages.now (row_of c.args.row) i d e Gone (omega arith) c.if-i-stages.false c.index-stages-i.is c.event_of-event.ensures
-    (λ rest. refused (stage_of d) i rest (as_event e) c.in-None.ensures)
+    on c.args.stages.now (row_of c.args.row) i d c.event_of-event.result Gone (omega (arith, e.0)) e.0 (e.1 d) c.event_of-event.ensures
+    (λ rest. refused (stage_of d) i rest (as_event c.event_of-event.result) c.in-None.ensures)
