@@ -1,1 +1,2 @@
-pub mod Hands
+mod Front
+pub mod Words

@@ -1,128 +1,133 @@
-// Reading words, numbers and signs at a place in the bytes of a text, as the crate `grammar` defines it.
-// A place is at most the length of the text.
-#![tactic(auto)]
+// Reading words, numbers and signs at the front of what is left of a text, as the crate `grammar` defines it. A reader
+// gives what it read with the bytes behind it. Assumes nothing.
+#![tactic(auto, using(crate::proofs::Front::fronts))]
 
-ghost use Rattle.std.specs.Prelude.{◌≡◌, ◌+◌, ◌<◌, ◌≤◌, true, length, drop};
-ghost use Rattle.grammar.specs.Reading.{blank, letter as letter_byte, is as is_here, starts_digit, starts_letter, is_the_word, digits as digits_at, limited as limited_at};
-ghost use Rattle.tokens.specs.Says.{Skips, SaysDigits, SaysNumber};
+ghost use Rattle.std.specs.Prelude.{◌≡◌, ◌+◌, ◌-◌, ◌*◌, ◌^◌, ◌≤◌, false, true, length, take, drop, MatchOption};
+ghost use Rattle.std.specs.List.{prefix_len, take_while};
+ghost use Rattle.std.specs.Char.{is_ascii_alphanumeric};
+ghost use Rattle.grammar.specs.Reading.{blank, letter as letter_byte, is as is_here, starts_digit, starts_letter, is_the_word, skip as skip_of, digits as digits_of, number as number_of, limited as limited_of};
+ghost use Rattle.tokens.specs.Says.{Reads};
 
-use crate::faults::{Fault, Number};
-use grammar::refusals::{Refusal, Why};
+use crate::faults::Unexpected;
+use grammar::refusals::Why;
 use plans::stages::MOST_SPAN;
 
 pub mod faults;
 
-// The first place from `at` on that has no white space.
-pub fn skip(b: &[u8], at: usize) -> usize
-    requires { at ≤ length b.now }
-    ensures { Skips b.now at result }
+// What is left behind the white space.
+pub fn skip(b: &[u8]) -> &[u8]
+    ensures { result.now ≡ skip_of b.now }
 {
-    let mut i = at;
-    while i < b.len() && is_blank(b[i]) {
-        i += 1;
+    let mut rest = b;
+    while let [first, after @ ..] = rest
+        && is_blank(*first)
+    {
+        rest = after;
     }
-    i
+    rest
 }
 
 fn is_blank(c: u8) -> bool
     ensures { result ≡ blank c }
 {
-    c == b' ' || c == b'\t' || c == b'\n' || c == b'\r'
+    matches!(c, b' ' | b'\t' | b'\n' | b'\r')
 }
 
-// Whether the byte at `at` is `c`.
-pub fn is(b: &[u8], at: usize, c: u8) -> bool
-    ensures value { result ≡ is_here c (drop at b.now) }
-    ensures room { result ≡ true → at < length b.now }
+// What is behind the byte `c`, if it stands here.
+pub fn strip_sign(b: &[u8], c: u8) -> Option<&[u8]>
+    ensures { MatchOption result (is_here c b.now ≡ false) (λ r. (is_here c b.now ≡ true) × (r.now ≡ drop 1 b.now)) }
 {
-    at < b.len() && b[at] == c
+    let (first, rest) = b.split_first()?;
+    (*first == c).then_some(rest)
 }
 
-// Whether a digit stands at `at`.
-pub fn is_digit(b: &[u8], at: usize) -> bool
-    ensures value { result ≡ starts_digit (drop at b.now) }
-    ensures room { result ≡ true → at < length b.now }
+// Whether a digit stands here.
+pub fn is_digit(b: &[u8]) -> bool
+    ensures { result ≡ starts_digit b.now }
 {
-    at < b.len() && b[at].is_ascii_digit()
+    matches!(b, [b'0'..=b'9', ..])
 }
 
-fn is_letter(b: &[u8], at: usize) -> bool
-    ensures { result ≡ starts_letter (drop at b.now) }
+fn is_letter(b: &[u8]) -> bool
+    ensures { result ≡ starts_letter b.now }
 {
-    at < b.len() && is_alphabetic(b[at])
+    matches!(b, [b'a'..=b'z' | b'A'..=b'Z', ..])
 }
 
-fn is_alphabetic(c: u8) -> bool
-    ensures { result ≡ letter_byte c }
+// What is behind `word`, if it stands here, with neither a letter nor a digit right behind it.
+pub fn strip_word<'a>(b: &'a [u8], word: &[u8]) -> Option<&'a [u8]>
+    ensures { MatchOption result (is_the_word word.now b.now ≡ false) (λ r. (is_the_word word.now b.now ≡ true) × (r.now ≡ drop (length word.now) b.now)) }
 {
-    c.is_ascii_lowercase() || c.is_ascii_uppercase()
-}
-
-// Whether `word` stands at `at`, with neither a letter nor a digit right behind it.
-pub fn is_word(b: &[u8], at: usize, word: &[u8]) -> bool
-    requires { at ≤ length b.now }
-    ensures value { result ≡ is_the_word word.now (drop at b.now) }
-    ensures room { result ≡ true → at + length word.now ≤ length b.now }
-{
-    for i in 0..word.len() {
-        if !is(b, at + i, word[i]) {
-            return false;
-        }
+    let rest = b.strip_prefix(word)?;
+    if is_letter(rest) || is_digit(rest) {
+        None
+    } else {
+        Some(rest)
     }
-    let end = at + word.len();
-    !is_letter(b, end) && !is_digit(b, end)
 }
 
-// The number whose first digit stands at `at`.
-pub fn digits(b: &[u8], at: usize) -> Result<Number, Fault>
-    requires { at ≤ length b.now }
-    ensures { SaysDigits (digits_at (drop at b.now) 0 (drop at b.now)) b.now result }
+// The letters and digits that stand here, and what is behind them.
+pub fn split_word(b: &[u8]) -> (&[u8], &[u8])
+    ensures front { result.0.now ≡ take_while is_ascii_alphanumeric b.now }
+    ensures behind { result.1.now ≡ drop (prefix_len is_ascii_alphanumeric b.now) b.now }
+{
+    b.split_at(word_len(b))
+}
+
+fn word_len(b: &[u8]) -> usize
+    ensures value { result ≡ prefix_len is_ascii_alphanumeric b.now }
+    ensures within { result ≤ length b.now }
+{
+    b.iter().take_while(|c| c.is_ascii_alphanumeric()).count()
+}
+
+// The number that a digit makes of those before it, below 2^64.
+fn with_digit(n: u64, digit: u8) -> Option<u64>
+    requires { 48 ≤ digit }
+    ensures { MatchOption result (2 ^ 64 ≤ n * 10 + (digit - 48)) (λ m. m ≡ n * 10 + (digit - 48)) }
+{
+    n.checked_mul(10)?.checked_add(u64::from(digit - b'0'))
+}
+
+// The number whose first digit stands here.
+pub fn digits(b: &[u8]) -> Result<(u64, &[u8]), Unexpected>
+    ensures { Reads (λ n. n) (digits_of b.now 0 b.now) result }
 {
     let mut n: u64 = 0;
-    let mut i = at;
-    while is_digit(b, i) {
-        let Some(tens) = n.checked_mul(10) else {
-            return Err(Fault::Refused(Refusal {
-                at,
-                why: Why::Large,
-            }));
-        };
-        let Some(more) = tens.checked_add(u64::from(b[i] - b'0')) else {
-            return Err(Fault::Refused(Refusal {
-                at,
-                why: Why::Large,
-            }));
+    let mut rest = b;
+    while let [digit @ b'0'..=b'9', after @ ..] = rest {
+        let Some(more) = with_digit(n, *digit) else {
+            return Err(Unexpected(Why::Large, b));
         };
         n = more;
-        i += 1;
+        rest = after;
     }
-    if is_letter(b, i) {
-        return Err(Fault::Refused(Refusal {
-            at: i,
-            why: Why::Joined,
-        }));
+    if is_letter(rest) {
+        return Err(Unexpected(Why::Joined, rest));
     }
-    Ok(Number { n, end: i })
+    Ok((n, rest))
 }
 
-// The largest lateness and the largest size of a window, in milliseconds.
-const LONGEST: u64 = MOST_SPAN;
-
-// The number at `at`, from `low` to 2^40; `why` says what any other is refused for.
-pub fn limited(b: &[u8], at: usize, low: u64, why: Why) -> Result<Number, Fault>
-    requires { at ≤ length b.now }
-    ensures { SaysNumber (limited_at why low (drop at b.now)) b.now result }
+// The number behind white space.
+pub fn number(b: &[u8]) -> Result<(u64, &[u8]), Unexpected>
+    ensures { Reads (λ n. n) (number_of b.now) result }
 {
-    let start = skip(b, at);
-    if !is_digit(b, start) {
-        return Err(Fault::Refused(Refusal {
-            at: start,
-            why: Why::Number,
-        }));
+    let rest = skip(b);
+    if is_digit(rest) {
+        digits(rest)
+    } else {
+        Err(Unexpected(Why::Number, rest))
     }
-    let number = digits(b, start)?;
-    if number.n < low || number.n > LONGEST {
-        return Err(Fault::Refused(Refusal { at: start, why }));
+}
+
+// The number behind white space, from `low` to 2^40; `why` says what any other is refused for.
+pub fn limited(b: &[u8], low: u64, why: Why) -> Result<(u64, &[u8]), Unexpected>
+    ensures { Reads (λ n. n) (limited_of why low b.now) result }
+{
+    let (n, rest) = number(b)?;
+    if (low..=MOST_SPAN).contains(&n) {
+        Ok((n, rest))
+    } else {
+        Err(Unexpected(why, skip(b)))
     }
-    Ok(number)
 }

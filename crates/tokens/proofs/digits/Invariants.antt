@@ -1,9 +1,9 @@
-use Rattle.std.proofs.Common.{◌≡◌, ◌-◌, ◌≤◌, length, drop}
+use Rattle.std.proofs.Common.{◌≡◌, length}
 use Rattle.grammar.specs.Reading.{digits}
 use Rattle.tokens.proofs.digits.Given as goal
 
-abbrev pub invariant-loop-tens : goal.invariant-loop-tens
-invariant-loop-tens l = (digits (drop l.at l.b) 0 (drop l.at l.b) ≡ digits (drop l.at l.b) l.n (drop l.i l.b)) × (l.i ≤ length l.b)
+abbrev pub invariant-loop-rest : goal.invariant-loop-rest
+invariant-loop-rest l = digits l.b 0 l.b ≡ digits l.b l.n l.rest
 
-abbrev pub decreases-loop-tens : goal.decreases-loop-tens
-decreases-loop-tens l = length l.b - l.i
+abbrev pub decreases-loop-rest : goal.decreases-loop-rest
+decreases-loop-rest l = length l.rest

@@ -1,37 +1,22 @@
-use Rattle.std.proofs.Common.{ℕ, ◌<◌, ◌≤◌, ◌⊎◌, drop, sym, inl, inr}
+use Rattle.std.proofs.Common.{◌≡◌, true, false, ◌&&◌, leb, ◌∙◌}
 use Rattle.std.proofs.lemmas.Result.{err_from_is_err_and}
-use Rattle.grammar.specs.Reading.{digits, limited}
-use Rattle.grammar.proofs.Places.{limited_none, limited_bad, limited_out, limited_in}
-use Rattle.tokens.proofs.Hands.{hand_on, refuses}
+use Rattle.grammar.proofs.Readers.{after_bad, after_got}
+use Rattle.grammar.specs.Reading.{limited}
+use Rattle.tokens.proofs.Front.{in_range}
 use Rattle.tokens.proofs.limited.Goals as goal
 
-out-either : {n low : ℕ} → (n < low) ⊎ ((low ≤ n) × (1099511627776 < n)) → (n < low) ⊎ (1099511627776 < n)
-out-either (inl h) = inl h
-out-either (inr h) = inr h.1
+pub returns-in_err-n : goal.returns-in_err-n
+unfolding limited
+returns-in_err-n c = let p = err_from_is_err_and c.from_residual.result c.from_residual.ensures.1 in rw (p.1, p.2) (after_bad _ _ c.in_err-n.ensures)
 
-pub returns-then-not-is_digit : goal.returns-then-not-is_digit
-returns-then-not-is_digit c =
-    (limited_none c.args.why c.args.low (drop c.args.at c.args.b.now) (drop c.skip-start.result c.args.b.now) c.skip-start.ensures.skipped (sym c.if-not-is_digit.ensures.value), c.skip-start.ensures.inside)
+pub returns-then-contains : goal.returns-then-contains
+unfolding limited
+returns-then-contains c =
+    let within : true ≡ leb c.args.low c.in_ok-n.n && leb c.in_ok-n.n 1099511627776 = (rw (c.new.ensures.start, c.new.ensures.exhausted, c.new.ensures.end) at c.if-contains.ensures.value) ∙ in_range c.args.low c.in_ok-n.n 1099511627776 in
+    after_got _ _ c.in_ok-n.ensures ∙ rw (← within)
 
-pub returns-in_err-number : goal.returns-in_err-number
-returns-in_err-number c =
-    let p = err_from_is_err_and c.from_residual.result c.from_residual.ensures.1 in
-    let s = drop c.skip-start.result c.args.b.now in
-    let bs = drop c.args.at c.args.b.now in
-    rw (p.1, p.2)
-    (hand_on (digits s 0 s) (limited c.args.why c.args.low bs) c.args.b.now c.in_err-number.field-0.0
-    (λ why rest is. limited_bad c.args.why c.args.low bs s c.skip-start.ensures.skipped (sym c.if-not-is_digit.ensures.value) is)
-    (refuses (digits s 0 s) c.args.b.now c.in_err-number.field-0.0 c.in_err-number.ensures))
-
-pub returns-then-number-low : goal.returns-then-number-low
-returns-then-number-low c = (
-  limited_out c.args.why c.args.low (drop c.args.at c.args.b.now) (drop c.skip-start.result c.args.b.now) c.skip-start.ensures.skipped (sym c.if-not-is_digit.ensures.value) c.in_ok-number.ensures.is (out-either c.then-number-low.either),
-  c.skip-start.ensures.inside,
-)
-
-pub returns : goal.returns
-returns c =
-    record {
-      is = limited_in c.args.why c.args.low (drop c.args.at c.args.b.now) (drop c.skip-start.result c.args.b.now) c.skip-start.ensures.skipped (sym c.if-not-is_digit.ensures.value) c.in_ok-number.ensures.is c.if-number-low.false c.if-number-gt-LONGEST.false;
-      inside = c.in_ok-number.ensures.inside;
-    }
+pub returns-else-contains : goal.returns-else-contains
+unfolding limited
+returns-else-contains c =
+    let beyond : false ≡ leb c.args.low c.in_ok-n.n && leb c.in_ok-n.n 1099511627776 = (rw (c.new.ensures.start, c.new.ensures.exhausted, c.new.ensures.end) at c.if-contains.ensures.value) ∙ in_range c.args.low c.in_ok-n.n 1099511627776 in
+    after_got _ _ c.in_ok-n.ensures ∙ rw (← beyond, c.skip.ensures)
