@@ -1,115 +1,86 @@
 -- Steps of the readers of expressions, from what each call answered. Assumes nothing.
-use Rattle.std.proofs.Common.{◌≡◌, ℕ, ◌+◌, ◌-◌, ◌<◌, ◌≤◌, ◌≢◌, List, length, drop, Some, Ok, Err, Result, sym, ap, ◌∙◌, subst, arith, drop-drop}
+use Rattle.std.proofs.Common.{◌≡◌, ℕ, ◌+◌, ◌-◌, ◌<◌, ◌≤◌, ◌≢◌, Bool, true, false, cond, leb, List, Some, Result, subst, sym, ap, ◌∙◌, arith}
 use Rattle.std.proofs.lemmas.Bool.{lt-leb, le-leb}
 use Rattle.streams.specs.Meaning as spec
 use Rattle.streams.specs.Calls.{parts}
-use Rattle.plans.specs.Model.{expr_of}
 use Rattle.grammar.specs.declared.operators.Operator.{Operator}
 use Rattle.grammar.specs.declared.operators.Level.{Level}
-use Rattle.grammar.specs.declared.operators.Level.TheVariants as level
-use Rattle.grammar.specs.declared.refusals.Why.{Why}
 use Rattle.grammar.specs.declared.refusals.Why.TheVariants.{Parts}
-use Rattle.grammar.proofs.Readers.{after_got, after_bad, joined_parts, more_turn, expression_two}
-use Rattle.grammar.specs.Reading.{Got, got, bad, Reader, after, skip, operator, comparison, join, negate, more, chained, operand, single, bracket, expression}
+use Rattle.grammar.specs.declared.operators.Level.TheVariants as level
+use Rattle.grammar.proofs.Readers.{joined_parts, more_turn, factor_not, factor_bracket, bracket_in, chained_bad, expression_bad}
+use Rattle.grammar.specs.Reading.{Got, got, bad, Reader, after, skip, next, operator, join, joined, negate, more, chained, operand, factor, bracket, expression, closed}
+use Rattle.grammar.specs.Reading.{is as is_here}
+use Rattle.std.specs.Borrow.{Bor}
 use Rattle.tokens.specs.declared.faults.Fault.{Fault}
 use Rattle.tokens.specs.declared.faults.Fault.TheVariants.{Memory, Refused}
-use Rattle.tokens.specs.Says.{Refuses}
-use Rattle.formulas.specs.declared.parts.Part.{Part}
-use Rattle.formulas.specs.Says.{Parted, SaysPart, TooMany, Joins, Negates}
+use Rattle.tokens.specs.declared.faults.Unexpected.{Unexpected}
+use Rattle.tokens.specs.Says.{Stops, Says}
+use Rattle.formulas.specs.declared.formula.Formula.{Formula}
+use Rattle.formulas.specs.Says.{formula_of}
 
--- ---- a chain in which `p` was read so far: as many turns are left as parts may come
-pub record Going (l : Level) (inner : Reader spec.Expr) (bs b : List ℕ) (p : Part) : Type 0 where
+-- ---- joining, by the numbers of parts
+module _ (o : Operator) (place : List ℕ) (a b : spec.Expr) where
+  pub join_got : 1 + (parts a + parts b) ≤ 64 → (rest : List ℕ) → join o place a b rest ≡ got (joined o a b) rest
+  unfolding join
+  join_got h rest = rw (le-leb _ _ h)
+
+  pub join_bad : 64 < 1 + (parts a + parts b) → (rest : List ℕ) → join o place a b rest ≡ bad Parts place
+  unfolding join
+  join_bad h rest = rw (lt-leb _ _ h)
+
+  pub join_parts : {c : spec.Expr} (rest end : List ℕ) → join o place a b rest ≡ got c end → parts c ≡ 1 + (parts a + parts b)
+  unfolding join
+  join_parts {c} rest end e = go (leb (1 + (parts a + parts b)) 64) e
+    where
+      go : (t : Bool) → cond t (got (joined o a b) rest) (bad Parts place) ≡ got c end → parts c ≡ 1 + (parts a + parts b)
+      go true h = let s : joined o a b ≡ c = cc in ap parts (sym s) ∙ joined_parts o a b
+      go false h = absurd cc
+
+module _ (place : List ℕ) (a : spec.Expr) where
+  pub negate_got : 1 + parts a ≤ 64 → (rest : List ℕ) → negate place a rest ≡ got (spec.Not a) rest
+  unfolding negate
+  negate_got h rest = rw (le-leb _ _ h)
+
+  pub negate_bad : 64 < 1 + parts a → (rest : List ℕ) → negate place a rest ≡ bad Parts place
+  unfolding negate
+  negate_bad h rest = rw (lt-leb _ _ h)
+
+-- ---- a chain in which `a` was read so far, up to `rest`: as many turns are left as parts may come
+pub record Going (l : Level) (inner : Reader spec.Expr) (bs : List ℕ) (a : spec.Expr) (rest : List ℕ) : Type 0 where
   pub turns : ℕ
-  pub enough : 64 < turns + p.parts
-  pub is : chained l inner bs ≡ more l (operand l inner) turns (expr_of p.expr) (drop p.end b)
-  pub inside : p.end ≤ length b
-  pub counted : p.parts ≡ parts (expr_of p.expr)
-  pub few : p.parts ≤ 64
+  pub enough : 64 < turns + parts a
+  pub is : chained l inner bs ≡ more l (operand l inner) turns a rest
 
--- ---- joining
--- what `joined` answers is `join` at its place
-pub joins_ok : (o : Operator) (at : ℕ) (l r p : Part) (place rest : List ℕ) → l.parts ≡ parts (expr_of l.expr) → r.parts ≡ parts (expr_of r.expr) → Joins o at l r (Ok p) → join o place (expr_of l.expr) (expr_of r.expr) rest ≡ got (expr_of p.expr) rest
-unfolding join
-joins_ok o at l r p place rest cl cr j = rw (← cl, ← cr, le-leb _ _ j.few) (ap (λ e. got e rest) (sym j.is))
-
-pub joins_bad : (o : Operator) (at : ℕ) (l r : Part) (place rest : List ℕ) → l.parts ≡ parts (expr_of l.expr) → r.parts ≡ parts (expr_of r.expr) → 64 < 1 + (l.parts + r.parts) → join o place (expr_of l.expr) (expr_of r.expr) rest ≡ bad Parts place
-unfolding join
-joins_bad o at l r place rest cl cr j = rw (← cl, ← cr, lt-leb _ _ j)
-
-pub joins_counted : (o : Operator) (at : ℕ) (l r p : Part) → l.parts ≡ parts (expr_of l.expr) → r.parts ≡ parts (expr_of r.expr) → Joins o at l r (Ok p) → p.parts ≡ parts (expr_of p.expr)
-joins_counted o at l r p cl cr j = j.counts ∙ (λ i. 1 + (cl i + cr i)) ∙ sym (joined_parts o (expr_of l.expr) (expr_of r.expr)) ∙ ap parts (sym j.is)
-
--- a fault of `joined` refuses whatever joins there
-pub joins_refused : (o : Operator) (at : ℕ) (l r : Part) (g : Got spec.Expr) (b : List ℕ) (e : Fault) → at ≤ length b → (64 < 1 + (l.parts + r.parts) → g ≡ bad Parts (drop at b)) → TooMany (1 + (l.parts + r.parts)) at e → Refuses g b e
-joins_refused o at l r g b Memory h f j = tt
-joins_refused o at l r g b (Refused x) h f j = rw j.0 (f j.1, h)
-
-pub negates_refused : (at : ℕ) (l : Part) (g : Got spec.Expr) (b : List ℕ) (e : Fault) → at ≤ length b → (64 < 1 + l.parts → g ≡ bad Parts (drop at b)) → TooMany (1 + l.parts) at e → Refuses g b e
-negates_refused at l g b Memory h f j = tt
-negates_refused at l g b (Refused x) h f j = rw j.0 (f j.1, h)
-
-pub negate_ok : (l : Part) (place rest : List ℕ) → l.parts ≡ parts (expr_of l.expr) → 1 + l.parts ≤ 64 → negate place (expr_of l.expr) rest ≡ got (spec.Not (expr_of l.expr)) rest
-unfolding negate
-negate_ok l place rest c h = rw (← c, le-leb _ _ h)
-
-pub negate_bad : (l : Part) (place rest : List ℕ) → l.parts ≡ parts (expr_of l.expr) → 64 < 1 + l.parts → negate place (expr_of l.expr) rest ≡ bad Parts place
-unfolding negate
-negate_bad l place rest c h = rw (← c, lt-leb _ _ h)
-
--- ---- answers that are handed on
-pub says_as : (g h : Got spec.Expr) (b : List ℕ) (r : Result Part Fault) → h ≡ g → SaysPart g b r → SaysPart h b r
-says_as g h b r e s = subst (λ x. SaysPart x b r) (sym e) s
-
-pub negates_says : (at : ℕ) (l : Part) (g : Got spec.Expr) (b : List ℕ) (r : Result Part Fault) → g ≡ negate (drop at b) (expr_of l.expr) (drop l.end b) → at ≤ length b → l.end ≤ length b → l.parts ≡ parts (expr_of l.expr) → Negates at l r → SaysPart g b r
-unfolding parts
-negates_says at l g b (Ok p) e h k c j =
-    record {
-      is = e ∙ negate_ok l (drop at b) (drop l.end b) c j.few ∙ ap (λ x. got x (drop l.end b)) (sym j.is) ∙ ap (λ n. got (expr_of p.expr) (drop n b)) (sym j.ends);
-      inside = omega (arith, j.ends);
-      counted = j.counts ∙ ap (λ n. 1 + n) c ∙ ap parts (sym j.is);
-      few = omega (arith, j.counts, j.few);
-    }
-negates_says at l g b (Err f) e h k c j = negates_refused at l g b f h (λ m. e ∙ negate_bad l (drop at b) (drop l.end b) c m) j
-
--- a turn of a chain: `right` was read behind the operator at `place`, and joined to `left`
-module _ (l : Level) (inner : Reader spec.Expr) (bs b : List ℕ) (left right : Part) (place : ℕ) (o : Operator) (going : Going l inner bs b left) (skipped : drop place b ≡ skip (drop left.end b)) (found : operator l (drop place b) ≡ Some o) where
-  going_on : chained l inner bs ≡ after (operand l inner (drop (place + 1) b)) (λ y rest. after (join o (drop place b) (expr_of left.expr) y rest) (λ c end. more l (operand l inner) (going.turns - 1) c end))
-  going_on =
-      let left_over : going.turns ≢ 0 = omega (arith, going.enough, going.few) in
+-- one more turn: there is an operator at `sign`
+module _ (l : Level) (inner : Reader spec.Expr) (bs : List ℕ) (a : spec.Expr) (rest sign behind : List ℕ) (o : Operator) (going : Going l inner bs a rest) (few : parts a ≤ 64) (skipped : sign ≡ skip rest) (found : operator l sign ≡ Some o) (stripped : behind ≡ next sign) where
+  pub turn : chained l inner bs ≡ after (operand l inner behind) (λ b end. after (join o sign a b end) (λ c last. more l (operand l inner) (going.turns - 1) c last))
+  turn =
+      let left_over : going.turns ≢ 0 = omega (arith, going.enough) in
       going.is
-      ∙ more_turn l (operand l inner) going.turns (expr_of left.expr) (drop left.end b) (drop place b) skipped o left_over found
-      ∙ ap (λ n. after (operand l inner n) (λ y rest. after (join o (drop place b) (expr_of left.expr) y rest) (λ c end. more l (operand l inner) (going.turns - 1) c end))) (drop-drop 1 place b)
+      ∙ more_turn l (operand l inner) going.turns a rest sign skipped o left_over found
+      ∙ ap (λ n. after (operand l inner n) (λ b end. after (join o sign a b end) (λ c last. more l (operand l inner) (going.turns - 1) c last))) (sym stripped)
 
-  pub turn_bad : {why : Why} {rest : List ℕ} → operand l inner (drop (place + 1) b) ≡ bad why rest → chained l inner bs ≡ bad why rest
-  turn_bad e = going_on ∙ after_bad _ _ e
+-- ---- factors: `s` is what follows the white space, `n` what follows its first byte
+-- behind a `!`
+pub factor_fewer : (inner : Reader spec.Expr) (nots fewer : ℕ) (bs s n : List ℕ) → s ≡ skip bs → next s ≡ n → nots ≡ fewer + 1 → is_here 33 s ≡ true → factor inner nots bs ≡ after (factor inner fewer n) (λ a rest. negate s a rest)
+factor_fewer inner nots fewer bs s n e f h k =
+    let less : nots - 1 ≡ fewer = omega arith in
+    factor_not inner nots bs s n e f (omega arith) k ∙ ap (λ m. after (factor inner m n) (λ a rest. negate s a rest)) less
 
-  module _ (read : Parted (operand l inner (drop (place + 1) b)) b right) where
-    pub turn_many : 64 < 1 + (left.parts + right.parts) → chained l inner bs ≡ bad Parts (drop place b)
-    turn_many h = going_on ∙ after_got _ _ read.is ∙ after_bad _ _ (joins_bad o place left right (drop place b) _ going.counted read.counted h)
+-- behind an opening bracket
+pub factor_inside : (nots deep deeper : ℕ) (bs s n : List ℕ) → s ≡ skip bs → next s ≡ n → deep ≡ deeper + 1 → is_here 33 s ≡ false → is_here 40 s ≡ true → factor (bracket deep) nots bs ≡ after (expression deeper n) closed
+factor_inside nots deep deeper bs s n e f h k m =
+    let less : deep - 1 ≡ deeper = omega arith in
+    factor_bracket (bracket deep) nots bs s n e f k m ∙ bracket_in deep s n f (omega arith) ∙ ap (λ d. after (expression d n) closed) less
 
-    pub turn_goes : (p : Part) → Joins o place left right (Ok p) → Going l inner bs b p
-    turn_goes p j =
-        record {
-          turns = going.turns - 1;
-          enough = omega (arith, going.enough, going.few, j.counts);
-          is = going_on ∙ after_got _ _ read.is ∙ after_got _ _ (joins_ok o place left right p (drop place b) (drop right.end b) going.counted read.counted j) ∙ ap (λ n. more l (operand l inner) (going.turns - 1) (expr_of p.expr) (drop n b)) (sym j.ends);
-          inside = omega (arith, j.ends, read.inside);
-          counted = joins_counted o place left right p going.counted read.counted j;
-          few = omega (arith, j.counts, j.few);
-        }
+-- ---- what is handed on
+pub chain_stop : (l : Level) (inner : Reader spec.Expr) (bs : List ℕ) (e : Fault Unexpected) → Stops (operand l inner bs) e → Stops (chained l inner bs) e
+chain_stop l inner bs Memory s = tt
+chain_stop l inner bs (Refused u) s = chained_bad l inner bs s
 
--- a comparison, likewise
-module _ (deep : ℕ) (bs b : List ℕ) (left right : Part) (place : ℕ) (o : Operator) (first : Parted (chained level.Sum (bracket deep) bs) b left) (skipped : drop place b ≡ skip (drop left.end b)) (found : comparison (drop place b) ≡ Some o) where
-  two : expression deep bs ≡ after (chained level.Sum (bracket deep) (drop (place + 1) b)) (λ y end. after (join o (drop place b) (expr_of left.expr) y end) single)
-  two = expression_two deep bs (drop place b) (drop (place + 1) b) first.is skipped (drop-drop 1 place b) found
+pub expression_stop : (deep : ℕ) (bs : List ℕ) (e : Fault Unexpected) → Stops (chained level.Sum (bracket deep) bs) e → Stops (expression deep bs) e
+expression_stop deep bs Memory s = tt
+expression_stop deep bs (Refused u) s = expression_bad deep bs s
 
-  pub two_bad : {why : Why} {rest : List ℕ} → chained level.Sum (bracket deep) (drop (place + 1) b) ≡ bad why rest → expression deep bs ≡ bad why rest
-  two_bad e = two ∙ after_bad _ _ e
-
-  module _ (second : Parted (chained level.Sum (bracket deep) (drop (place + 1) b)) b right) where
-    pub two_many : 64 < 1 + (left.parts + right.parts) → expression deep bs ≡ bad Parts (drop place b)
-    two_many h = two ∙ after_got _ _ second.is ∙ after_bad _ _ (joins_bad o place left right (drop place b) _ first.counted second.counted h)
-
-    pub two_joined : (p : Part) → Joins o place left right (Ok p) → expression deep bs ≡ single (expr_of p.expr) (drop p.end b)
-    two_joined p j =
-        two ∙ after_got _ _ second.is ∙ after_got _ _ (joins_ok o place left right p (drop place b) (drop right.end b) first.counted second.counted j) ∙ ap (λ n. single (expr_of p.expr) (drop n b)) (sym j.ends)
+pub says_as : {g h : Got spec.Expr} (r : Result (Formula × Bor (List ℕ)) (Fault Unexpected)) → h ≡ g → Says formula_of g r → Says formula_of h r
+says_as r is s = subst (λ x. Says formula_of x r) (sym is) s

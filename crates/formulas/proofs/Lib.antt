@@ -1,1 +1,2 @@
-pub mod Chains
+mod Chains
+mod Signs

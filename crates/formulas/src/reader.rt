@@ -1,119 +1,128 @@
-// The readers of expressions. Each takes a place in the text, and gives what it read with the place behind it, or the
-// reason and the place of a refusal.
-ghost use Rattle.std.specs.Prelude.{◌<◌, ◌≤◌, length, drop};
-ghost use Rattle.grammar.specs.Reading.{expression as expression_at, chained as chained_at, operand as operand_at, factor as factor_at, bracket as bracket_at};
-ghost use Rattle.formulas.specs.Says.{SaysPart};
+// The readers of expressions. Each takes what is left of a text, and gives what it read with what is behind it, or the
+// reason of a refusal with what is left there.
+ghost use Rattle.grammar.specs.Reading.{after, closed, expression as expression_of, chained as chained_of, operand as operand_of, factor as factor_of, bracket as bracket_of, leaf as leaf_of};
+ghost use Rattle.std.specs.Prelude.{◌≡◌, option_map};
+ghost use Rattle.plans.specs.Model.{expr_of};
+ghost use Rattle.tokens.specs.Says.{Reads, Says};
+ghost use Rattle.formulas.specs.Says.{formula_of, field_of};
 
-use crate::parts::{Part, comparison, joined, leaf, negated, operator};
+use crate::formula::Formula;
+use crate::operators::operator;
 use grammar::operators::Level;
-use grammar::refusals::{Refusal, Why};
+use grammar::refusals::Why;
+use plans::exprs::Expr;
 use std::alloc::Global;
-use tokens::faults::Fault;
-use tokens::{is, skip};
+use tokens::faults::{Stop, Unexpected};
+use tokens::{digits, is_digit, skip, split_word, strip_sign};
 
 // How many `!` may stand in a row.
 const NOTS: u8 = 64;
 
-// The expression at `at`, in which brackets stand at most `deep` deep in each other.
+// The expression here, in which brackets stand at most `deep` deep in each other.
 #[cycle(bracket_chain_expression_factor_operand)]
-pub fn expression(heap: Global, b: &[u8], at: usize, deep: u8) -> Result<Part, Fault>
-    requires { at ≤ length b.now }
-    ensures { SaysPart (expression_at deep (drop at b.now)) b.now result }
+pub fn expression(heap: Global, b: &[u8], deep: u8) -> Result<(Formula, &[u8]), Stop>
+    ensures { Says formula_of (expression_of deep b.now) result }
 {
-    let left = chain(heap, b, at, deep, Level::Sum)?;
-    let place = skip(b, left.end);
-    let Some(op) = comparison(b, place) else {
-        return Ok(left);
+    let (left, rest) = chain(heap, b, deep, Level::Sum)?;
+    let sign = skip(rest);
+    let Some((op, behind)) = operator(sign, None) else {
+        return Ok((left, rest));
     };
-    let right = chain(heap, b, place + 1, deep, Level::Sum)?;
-    let both = joined(heap, op, place, left, right)?;
-    let end = skip(b, both.end);
-    match comparison(b, end) {
-        None => Ok(both),
-        Some(_) => Err(Fault::Refused(Refusal {
-            at: end,
-            why: Why::Chained,
-        })),
+    let (right, rest) = chain(heap, behind, deep, Level::Sum)?;
+    let both = left.joined(heap, op, sign, right)?;
+    let end = skip(rest);
+    match operator(end, None) {
+        None => Ok((both, rest)),
+        Some(_) => Err(Unexpected(Why::Chained, end).into()),
     }
 }
 
 // Operands with operators of one level between them, from left to right.
 #[cycle(bracket_chain_expression_factor_operand)]
-fn chain(heap: Global, b: &[u8], at: usize, deep: u8, level: Level) -> Result<Part, Fault>
-    requires { at ≤ length b.now }
-    ensures { SaysPart (chained_at level (bracket_at deep) (drop at b.now)) b.now result }
+fn chain(heap: Global, b: &[u8], deep: u8, level: Level) -> Result<(Formula, &[u8]), Stop>
+    ensures { Says formula_of (chained_of level (bracket_of deep) b.now) result }
 {
-    let mut left = operand(heap, b, at, deep, level)?;
+    let (mut left, mut rest) = operand(heap, b, deep, level)?;
     loop {
-        let place = skip(b, left.end);
-        let Some(op) = operator(b, place, level) else {
-            return Ok(left);
+        let sign = skip(rest);
+        let Some((op, behind)) = operator(sign, Some(level)) else {
+            return Ok((left, rest));
         };
-        let right = operand(heap, b, place + 1, deep, level)?;
-        left = joined(heap, op, place, left, right)?;
+        let (right, end) = operand(heap, behind, deep, level)?;
+        left = left.joined(heap, op, sign, right)?;
+        rest = end;
     }
 }
 
 // The operands of a sum are products, those of a product are factors.
 #[cycle(bracket_chain_expression_factor_operand)]
-fn operand(heap: Global, b: &[u8], at: usize, deep: u8, level: Level) -> Result<Part, Fault>
-    requires { at ≤ length b.now }
-    ensures { SaysPart (operand_at level (bracket_at deep) (drop at b.now)) b.now result }
+fn operand(heap: Global, b: &[u8], deep: u8, level: Level) -> Result<(Formula, &[u8]), Stop>
+    ensures { Says formula_of (operand_of level (bracket_of deep) b.now) result }
 {
     match level {
-        Level::Sum => chain(heap, b, at, deep, Level::Product),
-        Level::Product => factor(heap, b, at, deep, NOTS),
+        Level::Sum => chain(heap, b, deep, Level::Product),
+        Level::Product => factor(heap, b, deep, NOTS),
     }
 }
 
 // A factor, before which `nots` more `!` may stand.
 #[cycle(bracket_chain_expression_factor_operand)]
-fn factor(heap: Global, b: &[u8], at: usize, deep: u8, nots: u8) -> Result<Part, Fault>
-    requires { at ≤ length b.now }
-    ensures { SaysPart (factor_at (bracket_at deep) nots (drop at b.now)) b.now result }
+fn factor(heap: Global, b: &[u8], deep: u8, nots: u8) -> Result<(Formula, &[u8]), Stop>
+    ensures { Says formula_of (factor_of (bracket_of deep) nots b.now) result }
 {
-    let place = skip(b, at);
-    if is(b, place, b'!') {
-        if nots == 0 {
-            return Err(Fault::Refused(Refusal {
-                at: place,
-                why: Why::Parts,
-            }));
-        }
-        let inner = factor(heap, b, place + 1, deep, nots - 1)?;
-        return negated(heap, place, inner);
+    let sign = skip(b);
+    if let Some(behind) = strip_sign(sign, b'!') {
+        let Some(fewer) = nots.checked_sub(1) else {
+            return Err(Unexpected(Why::Parts, sign).into());
+        };
+        let (inner, rest) = factor(heap, behind, deep, fewer)?;
+        return Ok((inner.negated(heap, sign)?, rest));
     }
-    if is(b, place, b'(') {
-        return bracket(heap, b, place, deep);
+    if let Some(inside) = strip_sign(sign, b'(') {
+        let Some(deeper) = deep.checked_sub(1) else {
+            return Err(Unexpected(Why::Deep, sign).into());
+        };
+        return bracket(heap, inside, deeper);
     }
-    leaf(b, place)
+    Ok(leaf(sign)?)
 }
 
-// From the opening bracket at `at` to the closing one.
+// What stands inside of a bracket, and the closing one.
 #[cycle(bracket_chain_expression_factor_operand)]
-fn bracket(heap: Global, b: &[u8], at: usize, deep: u8) -> Result<Part, Fault>
-    requires { at < length b.now }
-    ensures { SaysPart (bracket_at deep (drop at b.now)) b.now result }
+fn bracket(heap: Global, b: &[u8], deep: u8) -> Result<(Formula, &[u8]), Stop>
+    ensures { Says formula_of (after (expression_of deep b.now) closed) result }
 {
-    if deep == 0 {
-        return Err(Fault::Refused(Refusal { at, why: Why::Deep }));
+    let (inner, rest) = expression(heap, b, deep)?;
+    let close = skip(rest);
+    match strip_sign(close, b')') {
+        Some(behind) => Ok((inner, behind)),
+        None => Err(Unexpected(Why::Close, close).into()),
     }
-    let inner = expression(heap, b, at + 1, deep - 1)?;
-    let place = skip(b, inner.end);
-    if !is(b, place, b')') {
-        return Err(Fault::Refused(Refusal {
-            at: place,
-            why: Why::Close,
-        }));
+}
+
+// A number, or one of the words that stand for something of an event.
+fn leaf(b: &[u8]) -> Result<(Formula, &[u8]), Unexpected>
+    ensures { Reads formula_of (leaf_of b.now) result }
+{
+    if is_digit(b) {
+        let (n, rest) = digits(b)?;
+        let expr = Expr::Num(n);
+        return Ok((Formula { expr, parts: 1 }, rest));
     }
-    let Part {
-        expr,
-        parts,
-        end: _,
-    } = inner;
-    Ok(Part {
-        expr,
-        parts,
-        end: place + 1,
-    })
+    let (word, rest) = split_word(b);
+    match field(word) {
+        Some(expr) => Ok((Formula { expr, parts: 1 }, rest)),
+        None => Err(Unexpected(Why::Operand, b)),
+    }
+}
+
+fn field(word: &[u8]) -> Option<Expr>
+    ensures { option_map expr_of result ≡ field_of word.now }
+{
+    match word {
+        b"time" => Some(Expr::Time),
+        b"key" => Some(Expr::Key),
+        b"value" => Some(Expr::Value),
+        _ => None,
+    }
 }

@@ -1,2 +1,3 @@
 mod Front
+pub mod Hands
 pub mod Words

@@ -1,10 +1,13 @@
 -- A word at the front of a text, as the code looks for it and as the grammar does. Assumes nothing.
-use Rattle.std.proofs.Common.{◌≡◌, ℕ, suc, ◌+◌, leb, Bool, true, false, not, ◌&&◌, ◌||◌, eqb, List, [], ◌∷◌, length, take, drop, refl, sym, ap, ◌∙◌, arith}
+use Rattle.std.proofs.Common.{◌≡◌, cond, ℕ, suc, ◌+◌, leb, Bool, true, false, not, ◌&&◌, ◌||◌, eqb, List, [], ◌∷◌, length, take, drop, refl, sym, ap, ◌∙◌, arith}
 use Rattle.std.proofs.lemmas.Bool.{and_parts, eqb-true}
 use Rattle.std.specs.Cmp.Lexicographic.{pointwise}
 use Rattle.std.specs.Char.{is_ascii_digit, is_ascii_alphanumeric}
 use Rattle.std.specs.List.{list_all, prefix_len, take_while}
-use Rattle.grammar.specs.Reading.{letter, starts_letter, starts_digit, is_the_word}
+use Rattle.std.specs.Str.{bytes_eq}
+use Rattle.std.proofs.lemmas.Slice.Eq.{bytes_eq-Decides}
+use Rattle.std.proofs.lemmas.List.Folds.{length-prefix_len}
+use Rattle.grammar.specs.Reading.{Got, got, letter, starts_letter, starts_digit, is_the_word}
 
 -- its bytes, and no letter or digit right behind them
 pub word_prefix : (ws bs : List ℕ) → is_the_word ws bs ≡ (pointwise eqb (take (length ws) bs) ws && not (starts_letter (drop (length ws) bs) || starts_digit (drop (length ws) bs)))
@@ -59,3 +62,15 @@ word_run (w ∷ ws) (c ∷ cs) h = go (word_run ws cs here.1) (is_ascii_alphanum
     go : is_the_word ws cs ≡ pointwise eqb (take_while is_ascii_alphanumeric cs) ws → (t : Bool) → is_ascii_alphanumeric c ≡ t → eqb c w && is_the_word ws cs ≡ pointwise eqb (take_while is_ascii_alphanumeric (c ∷ cs)) (w ∷ ws)
     go more true e = rw (run_goes c cs e) (ap (λ t. eqb c w && t) more)
     go more false e = rw (run_ends c cs e) (other e (eqb c w) refl)
+
+-- one of several words, by the run: what it gives, or what comes of the others
+pub word_case : {A : Type 0} (ws bs : List ℕ) (a : A) (others : Got A) → list_all is_ascii_alphanumeric ws ≡ true
+    → cond (is_the_word ws bs) (got a (drop (length ws) bs)) others ≡ cond (bytes_eq (take_while is_ascii_alphanumeric bs) ws) (got a (drop (prefix_len is_ascii_alphanumeric bs) bs)) others
+word_case ws bs a others h = rw (word_run ws bs h) (go (bytes_eq (take_while is_ascii_alphanumeric bs) ws) refl)
+  where
+    go : (t : Bool) → bytes_eq (take_while is_ascii_alphanumeric bs) ws ≡ t → cond t (got a (drop (length ws) bs)) others ≡ cond t (got a (drop (prefix_len is_ascii_alphanumeric bs) bs)) others
+    go false e = refl
+    go true e =
+        let same : take_while is_ascii_alphanumeric bs ≡ ws = (bytes_eq-Decides (take_while is_ascii_alphanumeric bs) ws).0 e in
+        let long : length ws ≡ prefix_len is_ascii_alphanumeric bs = sym (ap length same) ∙ length-prefix_len is_ascii_alphanumeric bs in
+        ap (λ n. got a (drop n bs)) long

@@ -11,8 +11,12 @@ abbrev pub Reads : {X A : Type 0} → (X → A) → Got A → Result (X × Bor (
 Reads view g (Ok x) = g ≡ got (view x.0) x.1.now
 Reads view g (Err u) = g ≡ bad u.0 u.1.now
 
--- the same where memory may fail
+-- memory may fail at any time; any other fault is the refusal of the reading, at these bytes
+abbrev pub Stops : {A : Type 0} → Got A → Fault Unexpected → Type 0
+Stops g Memory = Unit {0}
+Stops g (Refused u) = g ≡ bad u.0 u.1.now
+
+-- the same as `Reads` where memory may fail
 abbrev pub Says : {X A : Type 0} → (X → A) → Got A → Result (X × Bor (List ℕ)) (Fault Unexpected) → Type 0
 Says view g (Ok x) = g ≡ got (view x.0) x.1.now
-Says view g (Err Memory) = Unit {0}
-Says view g (Err (Refused u)) = g ≡ bad u.0 u.1.now
+Says view g (Err e) = Stops g e

@@ -1,4 +1,5 @@
-use Rattle.std.proofs.Common.{ℕ, ◌+◌, ◌-◌, ◌*◌, drop}
+use Rattle.std.proofs.Common.{ℕ, ◌+◌, ◌-◌, ◌*◌}
+use Rattle.plans.specs.Model.{expr_of}
 use Rattle.grammar.specs.declared.operators.Level.{Level}
 use Rattle.grammar.specs.declared.operators.Level.TheVariants.{Sum, Product}
 use Rattle.grammar.specs.Reading.{bracket}
@@ -11,7 +12,7 @@ rank Sum = 700
 rank Product = 500
 
 abbrev pub decreases-bracket : goal.decreases-bracket
-decreases-bracket l = 1000 * l.deep + 50
+decreases-bracket l = 1000 * l.deep + 950
 
 abbrev pub decreases-chain : goal.decreases-chain
 decreases-chain l = 1000 * l.deep + rank l.level + 100
@@ -26,7 +27,7 @@ abbrev pub decreases-operand : goal.decreases-operand
 decreases-operand l = 1000 * l.deep + rank l.level
 
 abbrev pub invariant-chain-loop-op : goal.invariant-chain-loop-op
-invariant-chain-loop-op l = Going l.level (bracket l.deep) (drop l.at l.b) l.b l.left
+invariant-chain-loop-op l = Going l.level (bracket l.deep) l.b (expr_of l.left.expr) l.rest
 
 abbrev pub decreases-chain-loop-op : goal.decreases-chain-loop-op
 decreases-chain-loop-op l = 64 - l.left.parts
