@@ -10,13 +10,10 @@ use crate::formula::Formula;
 use crate::operators::operator;
 use grammar::operators::Level;
 use grammar::refusals::Why;
-use plans::exprs::Expr;
+use plans::exprs::{Expr, MOST_PARTS};
 use std::alloc::Global;
 use tokens::faults::{Stop, Unexpected};
 use tokens::{digits, is_digit, skip, split_word, strip_sign};
-
-// How many `!` may stand in a row.
-const NOTS: u8 = 64;
 
 // The expression here, in which brackets stand at most `deep` deep in each other.
 #[cycle(bracket_chain_expression_factor_operand)]
@@ -54,14 +51,14 @@ fn chain(heap: Global, b: &[u8], deep: u8, level: Level) -> Result<(Formula, &[u
     }
 }
 
-// The operands of a sum are products, those of a product are factors.
+// The operands of a sum are products, those of a product are factors: each `!` before one is a part of it.
 #[cycle(bracket_chain_expression_factor_operand)]
 fn operand(heap: Global, b: &[u8], deep: u8, level: Level) -> Result<(Formula, &[u8]), Stop>
     ensures { Says formula_of (operand_of level (bracket_of deep) b.now) result }
 {
     match level {
         Level::Sum => chain(heap, b, deep, Level::Product),
-        Level::Product => factor(heap, b, deep, NOTS),
+        Level::Product => factor(heap, b, deep, MOST_PARTS),
     }
 }
 

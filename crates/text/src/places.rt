@@ -15,8 +15,8 @@ pub fn locate(text: &[u8], at: usize) -> Position
 {
     let mut line = 1;
     let mut column = 1;
-    for i in 0..at.min(text.len()) {
-        if text[i] == b'\n' {
+    for c in &text[..at.min(text.len())] {
+        if *c == b'\n' {
             line += 1;
             column = 1;
         } else {

@@ -1,14 +1,15 @@
 // Reading a plan.
 ghost use Rattle.grammar.specs.Reading.{reading};
-ghost use Rattle.text.specs.Says.{SaysPlan, Valid, ReadAgain};
+ghost use Rattle.plans.specs.Model.{plan_of};
+ghost use Rattle.text.specs.Says.{SaysWhole, SaysPlan, Valid, ReadAgain};
 
 use crate::stages::stages;
 use grammar::refusals::{Refusal, Why};
 use plans::numbers::Span;
 use plans::stages::Plan;
 use std::alloc::Global;
-use tokens::faults::Fault;
-use tokens::{is_word, limited, skip};
+use tokens::faults::{Fault, Stop, Unexpected};
+use tokens::{limited, skip, strip_word};
 
 // How many bytes a text may have.
 const LONGEST: usize = 65536;
@@ -19,23 +20,28 @@ pub fn read(heap: Global, text: &[u8]) -> Result<Plan, Fault>
     ensures valid { Valid result }
     ensures again { ReadAgain text.now result }
 {
+    match plan(heap, text) {
+        Ok(plan) => Ok(plan),
+        Err(Fault::Memory) => Err(Fault::Memory),
+        Err(Fault::Refused(Unexpected(why, rest))) => {
+            let at = text.len() - rest.len();
+            Err(Fault::Refused(Refusal { at, why }))
+        }
+    }
+}
+
+fn plan(heap: Global, text: &[u8]) -> Result<Plan, Stop>
+    ensures { SaysWhole plan_of (reading text.now) result }
+{
     if text.len() > LONGEST {
-        return Err(Fault::Refused(Refusal {
-            at: LONGEST,
-            why: Why::Long,
-        }));
+        return Err(Unexpected(Why::Long, &text[LONGEST..]).into());
     }
-    let place = skip(text, 0);
-    if !is_word(text, place, b"late") {
-        return Err(Fault::Refused(Refusal {
-            at: place,
-            why: Why::Late,
-        }));
-    }
-    let late = limited(text, place + 4, 0, Why::Lateness)?;
-    let all = stages(heap, text, late.end)?;
-    Ok(Plan {
-        late: Span(late.n),
-        stages: all,
-    })
+    let place = skip(text);
+    let Some(rest) = strip_word(place, b"late") else {
+        return Err(Unexpected(Why::Late, place).into());
+    };
+    let (late, rest) = limited(rest, 0, Why::Lateness)?;
+    let stages = stages(heap, rest)?;
+    let late = Span(late);
+    Ok(Plan { late, stages })
 }

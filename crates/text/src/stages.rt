@@ -1,165 +1,108 @@
 // Reading the stages of a plan.
-ghost use Rattle.std.specs.Prelude.{◌≡◌, ◌≤◌, [], length, drop};
-ghost use Rattle.streams.specs.Calls.{parts as parts_of};
-ghost use Rattle.grammar.specs.Reading.{part as part_at, window as window_at, aggregate as aggregate_at, stage as stage_at, stages as stages_at};
-ghost use Rattle.plans.specs.Model.{expr_of};
-ghost use Rattle.tokens.specs.Says.{SaysNumber};
-ghost use Rattle.formulas.specs.Says.{SaysPart};
-ghost use Rattle.text.specs.Says.{SaysAggregate, SaysStage, SaysStages};
+ghost use Rattle.std.specs.Prelude.{◌≡◌, [], map, vec_items, option_map};
+ghost use Rattle.streams.specs.Meaning as spec;
+ghost use Rattle.grammar.specs.Reading.{part as part_of, window as window_of, aggregate as aggregate_of, stage as stage_read, stages as stages_of};
+ghost use Rattle.plans.specs.Model.{as_sum, expr_of, stage_of};
+ghost use Rattle.tokens.specs.Says.{Reads, Says};
+ghost use Rattle.text.specs.Says.{SaysWhole, named_of, stages_in};
 
-use formulas::parts::Part;
 use formulas::reader::expression;
-use grammar::refusals::{Refusal, Why};
+use grammar::refusals::Why;
 use plans::exprs::Expr;
 use plans::numbers::Span;
 use plans::stages::{Aggregate, MOST_STAGES, Stage};
 use std::alloc::Global;
-use tokens::faults::{Fault, Number};
-use tokens::{is, is_word, limited, skip};
-
-// An aggregate and the place behind it.
-#[derive(Clone, Copy)]
-pub(crate) struct Named {
-    pub(crate) aggregate: Aggregate,
-    pub(crate) end: usize,
-}
-
-// A stage and the place behind it.
-#[derive(Drop)]
-pub(crate) struct Staged {
-    pub(crate) stage: Stage,
-    pub(crate) end: usize,
-}
+use tokens::faults::{Stop, Unexpected};
+use tokens::{limited, skip, split_word, strip_sign, strip_word};
 
 // How deep brackets may stand in each other.
 const DEEP: u8 = 64;
 
-// How many stages a plan may have.
-const MOST: usize = MOST_STAGES;
-
 // The expression behind `word`, or what stands for it where the word is left out.
-fn part(heap: Global, b: &[u8], at: usize, word: &[u8], left_out: Expr) -> Result<Part, Fault>
-    requires { (at ≤ length b.now) × (parts_of (expr_of left_out) ≡ 1) }
-    ensures { SaysPart (part_at word.now (expr_of left_out) (drop at b.now)) b.now result }
+fn part<'a>(
+    heap: Global,
+    b: &'a [u8],
+    word: &[u8],
+    left_out: Expr,
+) -> Result<(Expr, &'a [u8]), Stop<'a>>
+    ensures { Says expr_of (part_of word.now (expr_of left_out) b.now) result }
 {
-    let place = skip(b, at);
-    if is_word(b, place, word) {
-        return expression(heap, b, place + word.len(), DEEP);
-    }
-    Ok(Part {
-        expr: left_out,
-        parts: 1,
-        end: at,
-    })
+    let Some(rest) = strip_word(skip(b), word) else {
+        return Ok((left_out, b));
+    };
+    let (formula, rest) = expression(heap, rest, DEEP)?;
+    Ok((formula.expr, rest))
 }
 
-fn window(b: &[u8], at: usize) -> Result<Number, Fault>
-    requires { at ≤ length b.now }
-    ensures { SaysNumber (window_at (drop at b.now)) b.now result }
+fn window(b: &[u8]) -> Result<(u64, &[u8]), Unexpected>
+    ensures { Reads (λ n. n) (window_of b.now) result }
 {
-    let place = skip(b, at);
-    if !is_word(b, place, b"in") {
-        return Err(Fault::Refused(Refusal {
-            at: place,
-            why: Why::Window,
-        }));
+    let place = skip(b);
+    match strip_word(place, b"in") {
+        Some(rest) => limited(rest, 1, Why::Size),
+        None => Err(Unexpected(Why::Window, place)),
     }
-    limited(b, place + 2, 1, Why::Size)
 }
 
-fn aggregate(b: &[u8], at: usize) -> Result<Named, Fault>
-    requires { at ≤ length b.now }
-    ensures { SaysAggregate (aggregate_at (drop at b.now)) b.now result }
+fn aggregate(b: &[u8]) -> Result<(Aggregate, &[u8]), Unexpected>
+    ensures { Reads as_sum (aggregate_of b.now) result }
 {
-    let place = skip(b, at);
-    if is_word(b, place, b"count") {
-        return Ok(Named {
-            aggregate: Aggregate::Count,
-            end: place + 5,
-        });
+    let place = skip(b);
+    let (word, rest) = split_word(place);
+    match named(word) {
+        Some(aggregate) => Ok((aggregate, rest)),
+        None => Err(Unexpected(Why::Aggregate, place)),
     }
-    if is_word(b, place, b"total") {
-        return Ok(Named {
-            aggregate: Aggregate::Total,
-            end: place + 5,
-        });
-    }
-    if is_word(b, place, b"least") {
-        return Ok(Named {
-            aggregate: Aggregate::Least,
-            end: place + 5,
-        });
-    }
-    if is_word(b, place, b"greatest") {
-        return Ok(Named {
-            aggregate: Aggregate::Greatest,
-            end: place + 8,
-        });
-    }
-    Err(Fault::Refused(Refusal {
-        at: place,
-        why: Why::Aggregate,
-    }))
 }
 
-// The stage at `at`, which is behind its semicolon.
-fn stage(heap: Global, b: &[u8], at: usize) -> Result<Staged, Fault>
-    requires { at ≤ length b.now }
-    ensures { SaysStage (stage_at (drop at b.now)) b.now result }
+fn named(word: &[u8]) -> Option<Aggregate>
+    ensures { option_map as_sum result ≡ named_of word.now }
 {
-    let Part {
-        expr: keep,
-        parts: _,
-        end,
-    } = part(heap, b, at, b"keep", Expr::Num(1))?;
-    let Part {
-        expr: key,
-        parts: _,
-        end,
-    } = part(heap, b, end, b"key", Expr::Key)?;
-    let Part {
-        expr: value,
-        parts: _,
-        end,
-    } = part(heap, b, end, b"value", Expr::Value)?;
-    let size = window(b, end)?;
-    let named = aggregate(b, size.end)?;
+    match word {
+        b"count" => Some(Aggregate::Count),
+        b"total" => Some(Aggregate::Total),
+        b"least" => Some(Aggregate::Least),
+        b"greatest" => Some(Aggregate::Greatest),
+        _ => None,
+    }
+}
+
+// The stage behind its semicolon.
+fn stage(heap: Global, b: &[u8]) -> Result<(Stage, &[u8]), Stop>
+    ensures { Says stage_of (stage_read b.now) result }
+{
+    let (keep, rest) = part(heap, b, b"keep", Expr::Num(1))?;
+    let (key, rest) = part(heap, rest, b"key", Expr::Key)?;
+    let (value, rest) = part(heap, rest, b"value", Expr::Value)?;
+    let (size, rest) = window(rest)?;
+    let (aggregate, rest) = aggregate(rest)?;
     let stage = Stage {
         keep,
         key,
         value,
-        size: Span(size.n),
-        aggregate: named.aggregate,
+        size: Span(size),
+        aggregate,
     };
-    Ok(Staged {
-        stage,
-        end: named.end,
-    })
+    Ok((stage, rest))
 }
 
 // One stage after the other, to the end of the text.
-pub(crate) fn stages(heap: Global, b: &[u8], at: usize) -> Result<Vec<Stage>, Fault>
-    requires { at ≤ length b.now }
-    ensures { SaysStages (stages_at 8 [] (drop at b.now)) b.now result }
+pub(crate) fn stages(heap: Global, b: &[u8]) -> Result<Vec<Stage>, Stop>
+    ensures { SaysWhole stages_in (stages_of 8 [] b.now) result }
 {
     let mut all = Vec::new(heap);
-    let mut place = skip(b, at);
-    while is(b, place, b';') {
-        if all.len() >= MOST {
-            return Err(Fault::Refused(Refusal {
-                at: place,
-                why: Why::Stages,
-            }));
+    let mut place = skip(b);
+    while let Some(rest) = strip_sign(place, b';') {
+        if all.len() >= MOST_STAGES {
+            return Err(Unexpected(Why::Stages, place).into());
         }
-        let Staged { stage: next, end } = stage(heap, b, place + 1)?;
+        let (next, rest) = stage(heap, rest)?;
         all.push(next)?;
-        place = skip(b, end);
+        place = skip(rest);
     }
-    if place < b.len() || all.is_empty() {
-        return Err(Fault::Refused(Refusal {
-            at: place,
-            why: Why::Semicolon,
-        }));
+    if place.is_empty() && !all.is_empty() {
+        Ok(all)
+    } else {
+        Err(Unexpected(Why::Semicolon, place).into())
     }
-    Ok(all)
 }

@@ -1,6 +1,6 @@
-use Rattle.std.proofs.Common.{◌≡◌, ◌+◌, ◌≤◌, take, drop}
+use Rattle.std.proofs.Common.{◌≡◌, ◌+◌, ◌≤◌, drop}
 use Rattle.text.specs.Position.{behind}
 use Rattle.text.proofs.places.locate.Given as goal
 
-abbrev pub invariant-loop-i : goal.invariant-loop-i
-invariant-loop-i l = (behind 1 1 (take l.at l.text) ≡ behind l.line l.column (drop l.i (take l.at l.text))) × (l.line ≤ l.i + 1) × (l.column ≤ l.i + 1)
+abbrev pub invariant-loop-c : goal.invariant-loop-c
+invariant-loop-c l = (behind 1 1 l.c-items ≡ behind l.line l.column (drop l.c-index l.c-items)) × (l.line ≤ l.c-index + 1) × (l.column ≤ l.c-index + 1)

@@ -1,51 +1,28 @@
-use Rattle.std.proofs.Common.{◌+◌, [], drop, Ok, Err, sym, arith, drop-drop}
-use Rattle.std.proofs.lemmas.Result.{err_from_is_err_and}
-use Rattle.plans.specs.declared.stages.Plan.{Plan}
-use Rattle.grammar.specs.declared.refusals.Why.TheVariants.{Long, Late, Lateness}
-use Rattle.grammar.specs.Reading.{limited, stages, reading}
-use Rattle.tokens.specs.declared.faults.Fault.TheVariants.{Refused}
-use Rattle.tokens.proofs.Hands.{hand_on}
-use Rattle.text.proofs.Steps.{too_long, no_late, late_bad, stages_bad, reading_got, told}
+use Rattle.std.proofs.Common.{[], sym, ap, ◌∙◌, arith}
+use Rattle.grammar.specs.Reading.{bad}
+use Rattle.grammar.proofs.Valid.{reads_valid}
+use Rattle.plans.specs.Model.{plan_of}
+use Rattle.text.proofs.Steps.{offset_of, got_again, never_refused}
 use Rattle.text.proofs.reader.read.Goals as goal
 
-pub returns-then-text-gt-LONGEST : goal.returns-then-text-gt-LONGEST
-returns-then-text-gt-LONGEST c =
-    let t = told c.args.text.now (Err (Refused (record { at = 65536; why = Long }))) (too_long c.args.text.now c.if-text-gt-LONGEST.true, omega (arith, c.if-text-gt-LONGEST.true)) in
-    record { whole = t.whole; valid = t.valid; again = t.again }
+pub overflow_sub-at : goal.overflow_sub-at
+overflow_sub-at c =
+    let refused = rw c.in-Err-Refused.field-0-is at c.in-Err-Refused.ensures in
+    (offset_of c.args.text.now c.in-Err-Refused.field-0-0.1.now refused).inside
 
-pub returns-then-not-is_word : goal.returns-then-not-is_word
-returns-then-not-is_word c =
-    let b = c.args.text.now in
-    let t = told b (Err (Refused (record { at = c.skip-place.result; why = Late }))) (no_late b (drop c.skip-place.result b) c.if-text-gt-LONGEST.false c.skip-place.ensures.skipped (sym c.if-not-is_word.ensures.value), c.skip-place.ensures.inside) in
-    record { whole = t.whole; valid = t.valid; again = t.again }
+pub returns-in-Ok-clause-valid : goal.returns-in-Ok-clause-valid
+returns-in-Ok-clause-valid c = reads_valid c.args.text.now (plan_of c.in-Ok.plan) [] c.in-Ok.ensures
 
-pub returns-in_err-late : goal.returns-in_err-late
-returns-in_err-late c =
-    let p = err_from_is_err_and c.from_residual.result c.from_residual.ensures.1 in
-    let b = c.args.text.now in
-    let n = drop (c.skip-place.result + 4) b in
-    let t =
-    told b (Err c.in_err-late.field-0.0)
-    (hand_on (limited Lateness 0 n) (reading b) b c.in_err-late.field-0.0
-    (λ why rest is. late_bad b (drop c.skip-place.result b) c.if-text-gt-LONGEST.false c.skip-place.ensures.skipped n (drop-drop 4 c.skip-place.result b) (sym c.if-not-is_word.ensures.value) is)
-    c.in_err-late.ensures) in
-    rw (p.1, p.2) (record { whole = t.whole; valid = t.valid; again = t.again })
+pub returns-in-Ok-clause-again : goal.returns-in-Ok-clause-again
+returns-in-Ok-clause-again c = λ q ok e. got_again c.args.text.now (plan_of c.in-Ok.plan) q c.in-Ok.ensures ok e
 
-pub returns-in_err-all : goal.returns-in_err-all
-returns-in_err-all c =
-    let p = err_from_is_err_and c.from_residual-in_err-all.result c.from_residual-in_err-all.ensures.1 in
-    let b = c.args.text.now in
-    let n = drop (c.skip-place.result + 4) b in
-    let t =
-    told b (Err c.in_err-all.field-0.0)
-    (hand_on (stages 8 [] (drop c.in_ok-late.late.end b)) (reading b) b c.in_err-all.field-0.0
-    (λ why rest is. stages_bad b (drop c.skip-place.result b) c.if-text-gt-LONGEST.false c.skip-place.ensures.skipped n (drop-drop 4 c.skip-place.result b) (sym c.if-not-is_word.ensures.value) c.in_ok-late.ensures.is is)
-    c.in_err-all.ensures) in
-    rw (p.1, p.2) (record { whole = t.whole; valid = t.valid; again = t.again })
+pub returns-in-Err-Refused-clause-whole : goal.returns-in-Err-Refused-clause-whole
+returns-in-Err-Refused-clause-whole c =
+    let refused = rw c.in-Err-Refused.field-0-is at c.in-Err-Refused.ensures in
+    let offset = offset_of c.args.text.now c.in-Err-Refused.field-0-0.1.now refused in
+    (refused ∙ ap (bad c.in-Err-Refused.field-0-0.0) (sym offset.is), omega arith)
 
-pub returns : goal.returns
-returns c =
-    let b = c.args.text.now in
-    let plan : Plan = record { late = record { 0 = c.in_ok-late.late.n }; stages = c.in_ok-all.all } in
-    let t = told b (Ok plan) (reading_got b (drop c.skip-place.result b) c.if-text-gt-LONGEST.false c.skip-place.ensures.skipped (drop (c.skip-place.result + 4) b) (drop-drop 4 c.skip-place.result b) (sym c.if-not-is_word.ensures.value) c.in_ok-late.ensures.is c.in_ok-all.ensures) in
-    record { whole = t.whole; valid = t.valid; again = t.again }
+pub returns-in-Err-Refused-clause-again : goal.returns-in-Err-Refused-clause-again
+returns-in-Err-Refused-clause-again c =
+    let refused = rw c.in-Err-Refused.field-0-is at c.in-Err-Refused.ensures in
+    λ q ok e. never_refused c.args.text.now q refused ok e

@@ -1,15 +1,17 @@
-use Rattle.std.proofs.Common.{◌+◌, length, drop, sym, arith, drop-drop}
-use Rattle.plans.specs.Model.{expr_of}
-use Rattle.grammar.specs.Reading.{part, expression}
-use Rattle.formulas.proofs.Chains.{says_as}
+use Rattle.std.proofs.lemmas.Result.{err_from_is_err_and}
+use Rattle.grammar.specs.Reading.{part}
 use Rattle.text.proofs.stages.part.Goals as goal
 
-pub returns-then-is_word : goal.returns-then-is_word
+pub returns-in_default : goal.returns-in_default
 unfolding part
-returns-then-is_word c =
-    let b = c.args.b.now in
-    says_as (expression 64 (drop (c.skip-place.result + length c.args.word.now) b)) (part c.args.word.now (expr_of c.args.left_out) (drop c.args.at b)) b c.expression.result (rw (← c.skip-place.ensures.skipped, sym c.if-is_word.ensures.value, drop-drop)) c.expression.ensures
+returns-in_default c = rw (← c.skip.ensures, c.in_default.ensures)
+
+pub returns-in_err-formula : goal.returns-in_err-formula
+unfolding part
+returns-in_err-formula c =
+    let p = err_from_is_err_and c.from_residual.result c.from_residual.ensures.1 in
+    rw (p.1, p.2, ← c.skip.ensures, c.in-Some.ensures.0, ← c.in-Some.ensures.1) c.in_err-formula.ensures
 
 pub returns : goal.returns
 unfolding part
-returns c = record { is = rw (← c.skip-place.ensures.skipped, sym c.if-is_word.ensures.value); inside = c.requires.0; counted = sym c.requires.1; few = omega arith }
+returns c = rw (← c.skip.ensures, c.in-Some.ensures.0, ← c.in-Some.ensures.1) c.in_ok-formula.ensures

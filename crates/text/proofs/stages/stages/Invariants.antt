@@ -1,11 +1,11 @@
-use Rattle.std.proofs.Common.{◌-◌, [], map, drop, vec_items, vec_len}
-use Rattle.plans.specs.Model.{stage_of}
+use Rattle.std.proofs.Common.{◌-◌, [], vec_len}
 use Rattle.grammar.specs.Reading.{stages}
+use Rattle.text.specs.Says.{stages_in}
 use Rattle.text.proofs.Steps.{Staging}
 use Rattle.text.proofs.stages.stages.Given as goal
 
-abbrev pub invariant-loop-heap : goal.invariant-loop-heap
-invariant-loop-heap l = Staging (stages 8 [] (drop l.at l.b)) l.b l.place (map stage_of (vec_items l.all))
+abbrev pub invariant-loop-rest : goal.invariant-loop-rest
+invariant-loop-rest l = Staging (stages 8 [] l.b) l.place (stages_in l.all)
 
-abbrev pub decreases-loop-heap : goal.decreases-loop-heap
-decreases-loop-heap l = 8 - vec_len l.all
+abbrev pub decreases-loop-rest : goal.decreases-loop-rest
+decreases-loop-rest l = 8 - vec_len l.all
