@@ -44,8 +44,8 @@ leaf_word bs h =
     let w = take_while is_ascii_alphanumeric bs in
     let rest = drop (prefix_len is_ascii_alphanumeric bs) bs in
     rw h
-    (word_case (codes "time") bs spec.Time _ refl
-    ∙ ap (cond (bytes_eq w (codes "time")) (got spec.Time rest)) (word_case (codes "key") bs spec.Key _ refl ∙ ap (cond (bytes_eq w (codes "key")) (got spec.Key rest)) (word_case (codes "value") bs spec.Value _ refl))
+    (word_case (codes "time") bs (got spec.Time) _ refl
+    ∙ ap (cond (bytes_eq w (codes "time")) (got spec.Time rest)) (word_case (codes "key") bs (got spec.Key) _ refl ∙ ap (cond (bytes_eq w (codes "key")) (got spec.Key rest)) (word_case (codes "value") bs (got spec.Value) _ refl))
     ∙ go rest (bytes_eq w (codes "time")) (bytes_eq w (codes "key")) (bytes_eq w (codes "value")))
   where
     go : (rest : List ℕ) (t k v : Bool) → cond t (got spec.Time rest) (cond k (got spec.Key rest) (cond v (got spec.Value rest) (bad Operand bs))) ≡ or_else (cond t (Some spec.Time) (cond k (Some spec.Key) (cond v (Some spec.Value) None))) (bad Operand bs) (λ e. got e rest)

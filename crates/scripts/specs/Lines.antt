@@ -2,6 +2,7 @@
 -- and numbers are those of plans.
 -- Assumes nothing.
 use Rattle.std.specs.Prelude.{ℕ, ◌+◌, ◌-◌, cond, ◌||◌, List, length, drop, Ok, Err, codes, Result}
+use Rattle.std.specs.Str.{bytes_eq}
 use Rattle.plans.specs.declared.entries.Entry.TheVariants as entry
 use Rattle.grammar.specs.Reading.{Got, got, bad, skip, is, is_end, is_the_word, number}
 use Rattle.scripts.specs.declared.commands.Command.{Command}
@@ -15,20 +16,19 @@ abbrev pub Says : Type 0
 Says = Result Command Complaint
 
 -- a number with the bytes behind it, or what is said if there is none
-pub data Number : Type 0 where
-  is' : ℕ → List ℕ → Number
-  none : Complaint → Number
+abbrev pub Number : Type 0
+Number = Result (ℕ × List ℕ) Complaint
 
 abbrev pub named : Field → Got ℕ → Number
-named f (got n rest) = is' n rest
-named f (bad why rest) = none (NoNumber f)
+named f (got n rest) = Ok (n, rest)
+named f (bad why rest) = Err (NoNumber f)
 
 unfoldable pub field_at : Field → List ℕ → Number
 field_at f bs = named f (number bs)
 
 abbrev pub then' : Number → (ℕ → List ℕ → Says) → Says
-then' (is' n rest) f = f n rest
-then' (none why) f = Err why
+then' (Ok x) f = f x.0 x.1
+then' (Err why) f = Err why
 
 unfoldable pub alone_at : Command → List ℕ → Says
 alone_at c bs = cond (is_end (skip bs)) (Ok c) (Err Extra)
@@ -48,6 +48,19 @@ logs_line bs = then' (field_at Count bs) (λ n end. alone_at (Logs n) end)
 
 unfoldable pub drop_line : List ℕ → Says
 drop_line bs = then' (field_at Before bs) (λ n end. alone_at (Drop n) end)
+
+-- a plan or the name of its file behind the word `plan`, in a line of so many bytes: the place where it begins
+unfoldable pub plan_at : (long : ℕ) → List ℕ → Command
+plan_at long rest = cond (is_the_word (codes "-file") rest) (PlanFile (long - length (drop 5 rest))) (Plan (long - length rest))
+
+-- what a line's first word makes of what is behind it
+abbrev pub by_word : (long : ℕ) → (word rest : List ℕ) → Says
+by_word long word rest =
+    cond (bytes_eq word (codes "put")) (put_line rest)
+    (cond (bytes_eq word (codes "still")) (still_line rest)
+    (cond (bytes_eq word (codes "out")) (out_line rest)
+    (cond (bytes_eq word (codes "plan")) (Ok (plan_at long rest))
+    (cond (bytes_eq word (codes "logs")) (logs_line rest) (cond (bytes_eq word (codes "drop")) (drop_line rest) (Err Unknown))))))
 
 -- with the place at which the bytes stand in the line
 unfoldable pub rarer_line : (at : ℕ) → List ℕ → Says

@@ -1,20 +1,20 @@
 // Reading a line.
-ghost use Rattle.std.specs.Prelude.{◌≡◌, ◌≤◌, ◌||◌, length, drop};
+ghost use Rattle.std.specs.Prelude.{◌≡◌, ◌≤◌, ◌||◌, length};
 ghost use Rattle.grammar.specs.Reading.{is as is_byte, is_end};
-ghost use Rattle.scripts.specs.Lines.{alone_at, command, drop_line, logs_line, out_line, put_line, rarer_line, still_line};
+ghost use Rattle.scripts.specs.Lines.{alone_at, by_word, command, drop_line, logs_line, out_line, plan_at, put_line, still_line};
 
 use crate::commands::{Command, Complaint, Field};
 use crate::fields::{ends, field};
 use plans::entries::{Entry, Event};
 use plans::numbers::{Key, Time, Value};
-use tokens::{is, is_word, skip};
+use tokens::{skip, split_word, strip_word};
 
 // The command, if nothing stands behind it.
-fn alone(line: &[u8], at: usize, command: Command) -> Result<Command, Complaint>
-    requires { at ≤ length line.now }
-    ensures { result ≡ alone_at command (drop at line.now) }
+#[tactic(auto, unfolding(crate::specs::Lines::alone_at))]
+fn alone(line: &[u8], command: Command) -> Result<Command, Complaint>
+    ensures { result ≡ alone_at command line.now }
 {
-    if ends(line, at) {
+    if ends(line) {
         Ok(command)
     } else {
         Err(Complaint::Extra)
@@ -22,124 +22,113 @@ fn alone(line: &[u8], at: usize, command: Command) -> Result<Command, Complaint>
 }
 
 // put L T K V
-fn put(line: &[u8], at: usize) -> Result<Command, Complaint>
-    requires { at ≤ length line.now }
-    ensures { result ≡ put_line (drop at line.now) }
+#[tactic(auto, unfolding(crate::specs::Lines::put_line))]
+fn put(line: &[u8]) -> Result<Command, Complaint>
+    ensures { result ≡ put_line line.now }
 {
-    let log = field(line, at, Field::Log)?;
-    let time = field(line, log.end, Field::Time)?;
-    let key = field(line, time.end, Field::Key)?;
-    let value = field(line, key.end, Field::Value)?;
+    let (log, rest) = field(line, Field::Log)?;
+    let (time, behind) = field(rest, Field::Time)?;
+    let (key, behind) = field(behind, Field::Key)?;
+    let (value, behind) = field(behind, Field::Value)?;
     let event = Event {
-        time: Time(time.n),
-        key: Key(key.n),
-        value: Value(value.n),
+        time: Time(time),
+        key: Key(key),
+        value: Value(value),
     };
-    alone(
-        line,
-        value.end,
-        Command::Put {
-            log: log.n,
-            entry: Entry::Happened(event),
-        },
-    )
+    let entry = Entry::Happened(event);
+    alone(behind, Command::Put { log, entry })
 }
 
 // still L T
-fn still(line: &[u8], at: usize) -> Result<Command, Complaint>
-    requires { at ≤ length line.now }
-    ensures { result ≡ still_line (drop at line.now) }
+#[tactic(auto, unfolding(crate::specs::Lines::still_line))]
+fn still(line: &[u8]) -> Result<Command, Complaint>
+    ensures { result ≡ still_line line.now }
 {
-    let log = field(line, at, Field::Log)?;
-    let time = field(line, log.end, Field::Time)?;
-    alone(
-        line,
-        time.end,
-        Command::Put {
-            log: log.n,
-            entry: Entry::Still(Time(time.n)),
-        },
-    )
+    let (log, rest) = field(line, Field::Log)?;
+    let (time, rest) = field(rest, Field::Time)?;
+    let entry = Entry::Still(Time(time));
+    alone(rest, Command::Put { log, entry })
 }
 
 // out, or out FROM MOST
-fn out(line: &[u8], at: usize) -> Result<Command, Complaint>
-    requires { at ≤ length line.now }
-    ensures { result ≡ out_line (drop at line.now) }
+#[tactic(auto, unfolding(crate::specs::Lines::out_line))]
+fn out(line: &[u8]) -> Result<Command, Complaint>
+    ensures { result ≡ out_line line.now }
 {
-    if ends(line, at) {
+    if ends(line) {
         return Ok(Command::All);
     }
-    let from = field(line, at, Field::From)?;
-    let most = field(line, from.end, Field::Most)?;
-    alone(
-        line,
-        most.end,
-        Command::Out {
-            from: from.n,
-            most: most.n,
-        },
-    )
+    let (from, rest) = field(line, Field::From)?;
+    let (most, rest) = field(rest, Field::Most)?;
+    alone(rest, Command::Out { from, most })
 }
 
 // logs N
-fn logs(line: &[u8], at: usize) -> Result<Command, Complaint>
-    requires { at ≤ length line.now }
-    ensures { result ≡ logs_line (drop at line.now) }
+#[tactic(auto, unfolding(crate::specs::Lines::logs_line))]
+fn logs(line: &[u8]) -> Result<Command, Complaint>
+    ensures { result ≡ logs_line line.now }
 {
-    let count = field(line, at, Field::Count)?;
-    alone(line, count.end, Command::Logs { count: count.n })
+    let (count, rest) = field(line, Field::Count)?;
+    alone(rest, Command::Logs { count })
 }
 
 // drop BEFORE
-fn drop_before(line: &[u8], at: usize) -> Result<Command, Complaint>
-    requires { at ≤ length line.now }
-    ensures { result ≡ drop_line (drop at line.now) }
+#[tactic(auto, unfolding(crate::specs::Lines::drop_line))]
+fn drop_before(line: &[u8]) -> Result<Command, Complaint>
+    ensures { result ≡ drop_line line.now }
 {
-    let before = field(line, at, Field::Before)?;
-    alone(line, before.end, Command::Drop { before: before.n })
+    let (before, rest) = field(line, Field::Before)?;
+    alone(rest, Command::Drop { before })
 }
 
-// Whether the line ends at `at`, or a comment begins there.
-fn is_silent(line: &[u8], at: usize) -> bool
-    requires { at ≤ length line.now }
-    ensures { result ≡ is_end (drop at line.now) || is_byte 35 (drop at line.now) }
+// plan TEXT, or plan-file NAME: the place of the text in the line, since people are told a column of it.
+#[tactic(auto, unfolding(crate::specs::Lines::plan_at))]
+fn plan(line: &[u8], rest: &[u8]) -> Command
+    requires { length rest.now ≤ length line.now }
+    ensures { result ≡ plan_at (length line.now) rest.now }
 {
-    at >= line.len() || is(line, at, b'#')
+    match strip_word(rest, b"-file") {
+        Some(name) => Command::PlanFile {
+            at: line.len() - name.len(),
+        },
+        None => Command::Plan {
+            at: line.len() - rest.len(),
+        },
+    }
+}
+
+// Whether the line ends here, or a comment begins.
+#[tactic(auto, using(crate::proofs::Fronts::fronts))]
+fn is_silent(line: &[u8]) -> bool
+    ensures { result ≡ is_end line.now || is_byte 35 line.now }
+{
+    matches!(line, [] | [b'#', ..])
 }
 
 // What a line says.
 pub fn parse(line: &[u8]) -> Result<Command, Complaint>
     ensures { result ≡ command line.now }
 {
-    let at = skip(line, 0);
-    if is_silent(line, at) {
-        Ok(Command::Nothing)
-    } else if is_word(line, at, b"put") {
-        put(line, at + 3)
-    } else if is_word(line, at, b"still") {
-        still(line, at + 5)
-    } else if is_word(line, at, b"out") {
-        out(line, at + 3)
-    } else {
-        rarer(line, at)
+    let start = skip(line);
+    if is_silent(start) {
+        return Ok(Command::Nothing);
     }
+    let (word, rest) = split_word(start);
+    named(line, word, rest)
 }
 
-// The commands that stand mostly once in a script.
-fn rarer(line: &[u8], at: usize) -> Result<Command, Complaint>
-    requires { at ≤ length line.now }
-    ensures { result ≡ rarer_line at (drop at line.now) }
+// What its first word makes of a line.
+fn named(line: &[u8], word: &[u8], rest: &[u8]) -> Result<Command, Complaint>
+    requires { length rest.now ≤ length line.now }
+    ensures { result ≡ by_word (length line.now) word.now rest.now }
 {
-    if is_word(line, at, b"plan-file") {
-        Ok(Command::PlanFile { at: at + 9 })
-    } else if is_word(line, at, b"plan") {
-        Ok(Command::Plan { at: at + 4 })
-    } else if is_word(line, at, b"logs") {
-        logs(line, at + 4)
-    } else if is_word(line, at, b"drop") {
-        drop_before(line, at + 4)
-    } else {
-        Err(Complaint::Unknown)
+    match word {
+        b"put" => put(rest),
+        b"still" => still(rest),
+        b"out" => out(rest),
+        b"plan" => Ok(plan(line, rest)),
+        b"logs" => logs(rest),
+        b"drop" => drop_before(rest),
+        _ => Err(Complaint::Unknown),
     }
 }

@@ -27,11 +27,11 @@ aggregate_word bs s e =
     let w = take_while is_ascii_alphanumeric s in
     let rest = drop (prefix_len is_ascii_alphanumeric s) s in
     rw (← e)
-    (word_case (codes "count") s spec.Count _ refl
+    (word_case (codes "count") s (got spec.Count) _ refl
     ∙ ap (cond (bytes_eq w (codes "count")) (got spec.Count rest))
-    (word_case (codes "total") s spec.Total _ refl
+    (word_case (codes "total") s (got spec.Total) _ refl
     ∙ ap (cond (bytes_eq w (codes "total")) (got spec.Total rest))
-    (word_case (codes "least") s spec.Least _ refl ∙ ap (cond (bytes_eq w (codes "least")) (got spec.Least rest)) (word_case (codes "greatest") s spec.Greatest _ refl)))
+    (word_case (codes "least") s (got spec.Least) _ refl ∙ ap (cond (bytes_eq w (codes "least")) (got spec.Least rest)) (word_case (codes "greatest") s (got spec.Greatest) _ refl)))
     ∙ go rest (bytes_eq w (codes "count")) (bytes_eq w (codes "total")) (bytes_eq w (codes "least")) (bytes_eq w (codes "greatest")))
   where
     go : (rest : List ℕ) (c t l g : Bool) → cond c (got spec.Count rest) (cond t (got spec.Total rest) (cond l (got spec.Least rest) (cond g (got spec.Greatest rest) (bad Aggregate s)))) ≡ or_else (cond c (Some spec.Count) (cond t (Some spec.Total) (cond l (Some spec.Least) (cond g (Some spec.Greatest) None)))) (bad Aggregate s) (λ a. got a rest)

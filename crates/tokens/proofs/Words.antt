@@ -1,5 +1,5 @@
 -- A word at the front of a text, as the code looks for it and as the grammar does. Assumes nothing.
-use Rattle.std.proofs.Common.{◌≡◌, cond, ℕ, suc, ◌+◌, leb, Bool, true, false, not, ◌&&◌, ◌||◌, eqb, List, [], ◌∷◌, length, take, drop, refl, sym, ap, ◌∙◌, arith}
+use Rattle.std.proofs.Common.{◌≡◌, cond, ℕ, suc, ◌+◌, ◌≤◌, leb, Bool, true, false, not, ◌&&◌, ◌||◌, eqb, List, [], ◌∷◌, ◌++◌, length, take, drop, refl, sym, ap, ◌∙◌, arith}
 use Rattle.std.proofs.lemmas.Bool.{and_parts, eqb-true}
 use Rattle.std.specs.Cmp.Lexicographic.{pointwise}
 use Rattle.std.specs.Char.{is_ascii_digit, is_ascii_alphanumeric}
@@ -7,18 +7,18 @@ use Rattle.std.specs.List.{list_all, prefix_len, take_while}
 use Rattle.std.specs.Str.{bytes_eq}
 use Rattle.std.proofs.lemmas.Slice.Eq.{bytes_eq-Decides}
 use Rattle.std.proofs.lemmas.List.Folds.{length-prefix_len}
-use Rattle.grammar.specs.Reading.{Got, got, letter, starts_letter, starts_digit, is_the_word}
+use Rattle.grammar.specs.Reading.{letter, starts_letter, starts_digit, is_the_word}
+
+pub and_regroup : (x y z : Bool) → x && (y && z) ≡ x && y && z
+and_regroup true y z = refl
+and_regroup false y z = refl
 
 -- its bytes, and no letter or digit right behind them
 pub word_prefix : (ws bs : List ℕ) → is_the_word ws bs ≡ (pointwise eqb (take (length ws) bs) ws && not (starts_letter (drop (length ws) bs) || starts_digit (drop (length ws) bs)))
 unfolding is_the_word
 word_prefix [] bs = refl
 word_prefix (w ∷ ws) [] = refl
-word_prefix (w ∷ ws) (c ∷ cs) = ap (λ t. eqb c w && t) (word_prefix ws cs) ∙ regrouped (eqb c w) _ _
-  where
-    regrouped : (x y z : Bool) → x && (y && z) ≡ x && y && z
-    regrouped true y z = refl
-    regrouped false y z = refl
+word_prefix (w ∷ ws) (c ∷ cs) = ap (λ t. eqb c w && t) (word_prefix ws cs) ∙ and_regroup (eqb c w) _ _
 
 alphanumeric : (c : ℕ) → is_ascii_alphanumeric c ≡ letter c || is_ascii_digit c
 alphanumeric c = swapped (leb 48 c && leb c 57) (leb 65 c && leb c 90) (leb 97 c && leb c 122)
@@ -63,14 +63,28 @@ word_run (w ∷ ws) (c ∷ cs) h = go (word_run ws cs here.1) (is_ascii_alphanum
     go more true e = rw (run_goes c cs e) (ap (λ t. eqb c w && t) more)
     go more false e = rw (run_ends c cs e) (other e (eqb c w) refl)
 
--- one of several words, by the run: what it gives, or what comes of the others
-pub word_case : {A : Type 0} (ws bs : List ℕ) (a : A) (others : Got A) → list_all is_ascii_alphanumeric ws ≡ true
-    → cond (is_the_word ws bs) (got a (drop (length ws) bs)) others ≡ cond (bytes_eq (take_while is_ascii_alphanumeric bs) ws) (got a (drop (prefix_len is_ascii_alphanumeric bs) bs)) others
-word_case ws bs a others h = rw (word_run ws bs h) (go (bytes_eq (take_while is_ascii_alphanumeric bs) ws) refl)
+-- one of several words, by the run: what it makes of what is behind it, or what comes of the others
+pub word_case : {X : Type 0} (ws bs : List ℕ) (f : List ℕ → X) (others : X) → list_all is_ascii_alphanumeric ws ≡ true
+    → cond (is_the_word ws bs) (f (drop (length ws) bs)) others ≡ cond (bytes_eq (take_while is_ascii_alphanumeric bs) ws) (f (drop (prefix_len is_ascii_alphanumeric bs) bs)) others
+word_case ws bs f others h = rw (word_run ws bs h) (go (bytes_eq (take_while is_ascii_alphanumeric bs) ws) refl)
   where
-    go : (t : Bool) → bytes_eq (take_while is_ascii_alphanumeric bs) ws ≡ t → cond t (got a (drop (length ws) bs)) others ≡ cond t (got a (drop (prefix_len is_ascii_alphanumeric bs) bs)) others
+    go : (t : Bool) → bytes_eq (take_while is_ascii_alphanumeric bs) ws ≡ t → cond t (f (drop (length ws) bs)) others ≡ cond t (f (drop (prefix_len is_ascii_alphanumeric bs) bs)) others
     go false e = refl
     go true e =
         let same : take_while is_ascii_alphanumeric bs ≡ ws = (bytes_eq-Decides (take_while is_ascii_alphanumeric bs) ws).0 e in
         let long : length ws ≡ prefix_len is_ascii_alphanumeric bs = sym (ap length same) ∙ length-prefix_len is_ascii_alphanumeric bs in
-        ap (λ n. got a (drop n bs)) long
+        ap (λ n. f (drop n bs)) long
+
+-- a word in two parts
+pub word_parts : (ws vs bs : List ℕ) → is_the_word (ws ++ vs) bs ≡ pointwise eqb (take (length ws) bs) ws && is_the_word vs (drop (length ws) bs)
+unfolding is_the_word
+word_parts [] vs bs = refl
+word_parts (w ∷ ws) vs [] = refl
+word_parts (w ∷ ws) vs (c ∷ cs) = ap (λ t. eqb c w && t) (word_parts ws vs cs) ∙ and_regroup (eqb c w) _ _
+
+-- a word is no longer than the text
+pub word_fits : (ws bs : List ℕ) → is_the_word ws bs ≡ true → length ws ≤ length bs
+unfolding is_the_word
+word_fits [] bs h = omega arith
+word_fits (w ∷ ws) [] h = absurd cc
+word_fits (w ∷ ws) (c ∷ cs) h = let more : length ws ≤ length cs = word_fits ws cs (and_parts (eqb c w) (is_the_word ws cs) h).1 in omega arith

@@ -1,27 +1,23 @@
-use Rattle.std.proofs.Common.{drop-drop}
-use Rattle.scripts.specs.Lines.{word_line}
-use Rattle.scripts.proofs.Numbers.{from_first}
+use Rattle.std.proofs.Common.{length, sym, refl, ap, ◌∙◌, arith, length-drop}
+use Rattle.std.specs.Char.{is_ascii_alphanumeric}
+use Rattle.std.specs.List.{prefix_len}
+use Rattle.scripts.specs.Lines.{word_line, command}
+use Rattle.scripts.proofs.Words.{skip_shorter, words_line}
 use Rattle.scripts.proofs.reading.parse.Goals as goal
 
 pub returns-then-is_silent : goal.returns-then-is_silent
-unfolding word_line
-returns-then-is_silent c = rw (from_first c.args.line.now _ c.skip-at.ensures.skipped c.skip-at.ensures.inside, ← c.if-is_silent.ensures)
+unfolding command word_line
+returns-then-is_silent c = rw (← c.skip-start.ensures, ← c.if-is_silent.ensures)
 
-pub returns-then-is_word : goal.returns-then-is_word
-unfolding word_line
-returns-then-is_word c = rw (from_first c.args.line.now _ c.skip-at.ensures.skipped c.skip-at.ensures.inside, ← c.if-is_silent.ensures, ← c.if-is_word.ensures.value, drop-drop 3 c.skip-at.result c.args.line.now) c.put.ensures
+pub named-requires : goal.named-requires
+named-requires c =
+    let start = c.skip-start.result.now in
+    omega (arith, skip_shorter c.args.line.now, ap length c.skip-start.ensures, ap length c.split_word.ensures.behind, length-drop (prefix_len is_ascii_alphanumeric start) start)
 
-pub returns-then-is_word-2 : goal.returns-then-is_word-2
-unfolding word_line
-returns-then-is_word-2 c =
-    rw (from_first c.args.line.now _ c.skip-at.ensures.skipped c.skip-at.ensures.inside, ← c.if-is_silent.ensures, ← c.if-is_word.ensures.value, ← c.if-is_word-2.ensures.value, drop-drop 5 c.skip-at.result c.args.line.now) c.still.ensures
-
-pub returns-then-is_word-3 : goal.returns-then-is_word-3
-unfolding word_line
-returns-then-is_word-3 c =
-    rw (from_first c.args.line.now _ c.skip-at.ensures.skipped c.skip-at.ensures.inside, ← c.if-is_silent.ensures, ← c.if-is_word.ensures.value, ← c.if-is_word-2.ensures.value, ← c.if-is_word-3.ensures.value, drop-drop 3 c.skip-at.result c.args.line.now) c.out.ensures
-
-pub returns-else-is_word-3 : goal.returns-else-is_word-3
-unfolding word_line
-returns-else-is_word-3 c =
-    rw (from_first c.args.line.now _ c.skip-at.ensures.skipped c.skip-at.ensures.inside, ← c.if-is_silent.ensures, ← c.if-is_word.ensures.value, ← c.if-is_word-2.ensures.value, ← c.if-is_word-3.ensures.value) c.rarer.ensures
+pub returns : goal.returns
+unfolding command
+returns c =
+    let start = c.skip-start.result.now in
+    c.named.ensures
+    ∙ rw (c.split_word.ensures.front, c.split_word.ensures.behind, ← c.skip-start.ensures)
+    (sym (words_line (length c.args.line.now) _ start refl (omega (arith, skip_shorter c.args.line.now, ap length c.skip-start.ensures)) (sym c.if-is_silent.ensures)))
