@@ -1,12 +1,13 @@
 -- No two calls have the same bytes, and bytes of another length than a kind has are no call. Assumes nothing.
-use Rattle.std.proofs.Common.{◌≡◌, ℕ, ◌+◌, true, false, List, [], ◌∷◌, ◌-◌, ◌≤◌, ◌++◌, length, get_or, take, drop, set, Some, None, Option, Ok, Err, Result, sym, refl, ap, ◌∙◌, subst, arith}
+use Rattle.std.proofs.Common.{◌≡◌, ℕ, ◌+◌, true, false, List, ◌∷◌, ◌-◌, ◌*◌, ◌≤◌, ◌==◌, cond, ◌++◌, length, get_or, take, drop, set, Some, None, Option, Ok, Err, Result, sym, refl, ap, ◌∙◌, subst, arith}
 use Rattle.std.proofs.lemmas.Slice.{take-put_mid, drop-put_mid}
 use Rattle.std.proofs.lemmas.List.{length-set, drop-set-lt}
 use Rattle.std.proofs.Math.Seq.{take-suc-set}
 use borrow.Rule.Slice.PartMut.{put_mid}
 use Rattle.std.specs.Option.{ok_or}
 use Rattle.streams.specs.Calls.{core}
-use Rattle.octets.proofs.Bytes.{two_same, eight_same}
+use Rattle.octets.specs.Form.{word_of}
+use Rattle.octets.proofs.Bytes.{two_value, eight_value}
 use Rattle.plans.specs.declared.entries.Entry.TheVariants.{Happened, Still}
 use Rattle.calls.specs.declared.kinds.Refusal.{Refusal}
 use Rattle.calls.specs.declared.kinds.Refusal.TheVariants.{Invalid, NoLog, Dropped, NotOut, Busy, NotBuilt}
@@ -19,37 +20,35 @@ use Rattle.calls.specs.Form.{call_of, kind_of, byte_of, size_of, numbers_of, enc
 kinds : {j k : ℕ} {xs ys : List ℕ} → j ∷ xs ≡ k ∷ ys → j ≡ k
 kinds e = ap (λ l. get_or l 0 0) e
 
--- two calls of one kind with the same bytes are one; of two kinds, they have not the same bytes
+-- the kind that goes by a byte, and the call of a kind with its numbers
+abbrev kind_at : ℕ → Kind
+kind_at b = cond (b == 1) kind.Put (cond (b == 2) kind.Still (cond (b == 3) kind.Out kind.Drop))
+
+abbrev call_at : Kind → List ℕ → Call
+call_at kind.Put ns = Put (record { 0 = get_or ns 0 0 }) (Happened (record { time = record { 0 = word_of (drop 1 ns) }; key = record { 0 = word_of (drop 9 ns) }; value = record { 0 = word_of (drop 17 ns) } }))
+call_at kind.Still ns = Put (record { 0 = get_or ns 0 0 }) (Still (record { 0 = word_of (drop 1 ns) }))
+call_at kind.Out ns = Out (record { 0 = word_of ns }) (get_or ns 8 0 * 256 + get_or ns 9 0)
+call_at kind.Drop ns = Drop (record { 0 = word_of ns })
+
+kind_back : (k : Kind) → kind_at (byte_of k) ≡ k
+kind_back kind.Put = refl
+kind_back kind.Still = refl
+kind_back kind.Out = refl
+kind_back kind.Drop = refl
+
+call_back : (c : Call) → Fit c → call_at (kind_of c) (numbers_of c) ≡ c
+call_back (Put l (Happened e)) f =
+    λ i. Put l (Happened (record { time = record { 0 = sym (eight_value e.time.0 f.1) i }; key = record { 0 = sym (eight_value e.key.0 f.2) i }; value = record { 0 = sym (eight_value e.value.0 f.3) i } }))
+call_back (Put l (Still t)) f = λ i. Put l (Still (record { 0 = sym (eight_value t.0 f.1) i }))
+call_back (Out a m) f = λ i. Out (record { 0 = sym (eight_value a.0 f.0) i }) (sym (two_value m f.1) i)
+call_back (Drop b) f = λ i. Drop (record { 0 = sym (eight_value b.0 f) i })
+
+same_kind : (j k : Kind) → byte_of j ≡ byte_of k → j ≡ k
+same_kind j k e = sym (kind_back j) ∙ ap kind_at e ∙ kind_back k
+
+-- two calls with the same bytes are one
 pub one_call : (c d : Call) → Fit c → Fit d → encoded c ≡ encoded d → c ≡ d
-one_call (Put l (Happened a)) (Put m (Happened b)) f g e =
-    let log : l.0 ≡ m.0 = ap (λ x. get_or x 1 0) e in
-    let time = eight_same a.time.0 b.time.0 _ _ f.1 g.1 (ap (drop 2) e) in
-    let key = eight_same a.key.0 b.key.0 _ _ f.2 g.2 time.1 in
-    let value = eight_same a.value.0 b.value.0 [] [] f.3 g.3 key.1 in
-    λ i. Put (record { 0 = log i }) (Happened (record { time = record { 0 = time.0 i }; key = record { 0 = key.0 i }; value = record { 0 = value.0 i } }))
-one_call (Put l (Happened a)) (Put m (Still t)) f g e = absurd (omega (arith, kinds e))
-one_call (Put l (Happened a)) (Out b n) f g e = absurd (omega (arith, kinds e))
-one_call (Put l (Happened a)) (Drop b) f g e = absurd (omega (arith, kinds e))
-one_call (Put l (Still t)) (Put m (Happened b)) f g e = absurd (omega (arith, kinds e))
-one_call (Put l (Still t)) (Put m (Still u)) f g e =
-    let log : l.0 ≡ m.0 = ap (λ x. get_or x 1 0) e in
-    let time = eight_same t.0 u.0 [] [] f.1 g.1 (ap (drop 2) e) in
-    λ i. Put (record { 0 = log i }) (Still (record { 0 = time.0 i }))
-one_call (Put l (Still t)) (Out b n) f g e = absurd (omega (arith, kinds e))
-one_call (Put l (Still t)) (Drop b) f g e = absurd (omega (arith, kinds e))
-one_call (Out a m) (Put k (Happened b)) f g e = absurd (omega (arith, kinds e))
-one_call (Out a m) (Put k (Still u)) f g e = absurd (omega (arith, kinds e))
-one_call (Out a m) (Out b n) f g e =
-    let from = eight_same a.0 b.0 _ _ f.0 g.0 (ap (drop 1) e) in
-    let most = two_same m n [] [] f.1 g.1 from.1 in
-    λ i. Out (record { 0 = from.0 i }) (most.0 i)
-one_call (Out a m) (Drop b) f g e = absurd (omega (arith, kinds e))
-one_call (Drop a) (Put k (Happened b)) f g e = absurd (omega (arith, kinds e))
-one_call (Drop a) (Put k (Still u)) f g e = absurd (omega (arith, kinds e))
-one_call (Drop a) (Out b n) f g e = absurd (omega (arith, kinds e))
-one_call (Drop a) (Drop b) f g e =
-    let before = eight_same a.0 b.0 [] [] f g (ap (drop 1) e) in
-    λ i. Drop (record { 0 = before.0 i })
+one_call c d f g e = sym (call_back c f) ∙ (λ i. call_at (same_kind (kind_of c) (kind_of d) (kinds e) i) (drop 1 (e i))) ∙ call_back d g
 
 -- all is built but dropping
 built : (c : Call) → core (call_of c) ≡ false → kind_of c ≡ kind.Drop
@@ -75,25 +74,6 @@ long (Put l (Happened e)) = refl
 long (Put l (Still t)) = refl
 long (Out f m) = refl
 long (Drop b) = refl
-
--- each kind goes by a byte of its own
-same_kind : (j k : Kind) → byte_of j ≡ byte_of k → j ≡ k
-same_kind kind.Put kind.Put e = refl
-same_kind kind.Put kind.Still e = absurd (omega arith)
-same_kind kind.Put kind.Out e = absurd (omega arith)
-same_kind kind.Put kind.Drop e = absurd (omega arith)
-same_kind kind.Still kind.Put e = absurd (omega arith)
-same_kind kind.Still kind.Still e = refl
-same_kind kind.Still kind.Out e = absurd (omega arith)
-same_kind kind.Still kind.Drop e = absurd (omega arith)
-same_kind kind.Out kind.Put e = absurd (omega arith)
-same_kind kind.Out kind.Still e = absurd (omega arith)
-same_kind kind.Out kind.Out e = refl
-same_kind kind.Out kind.Drop e = absurd (omega arith)
-same_kind kind.Drop kind.Put e = absurd (omega arith)
-same_kind kind.Drop kind.Still e = absurd (omega arith)
-same_kind kind.Drop kind.Out e = absurd (omega arith)
-same_kind kind.Drop kind.Drop e = refl
 
 built_else : (c : Call) → (byte_of (kind_of c) ≡ 4 → ⊥) → core (call_of c) ≡ true
 unfolding core

@@ -3,25 +3,8 @@ use Rattle.std.proofs.Common.{◌≡◌, ℕ, ◌+◌, ◌-◌, ◌*◌, ◌/◌
 use Rattle.octets.specs.Form.{two, four, eight}
 
 -- what two lists are equal by, element by element
-pub same2 : {a b a' b' : ℕ} {l l' : List ℕ} → a ≡ a' → b ≡ b' → l ≡ l' → a ∷ b ∷ l ≡ a' ∷ b' ∷ l'
+same2 : {a b a' b' : ℕ} {l l' : List ℕ} → a ≡ a' → b ≡ b' → l ≡ l' → a ∷ b ∷ l ≡ a' ∷ b' ∷ l'
 same2 p q r = cc
-
-pub two_of : (xs : List ℕ) (n : ℕ) → ((i : ℕ) → get_or xs i 0 < 256) → 2 ≤ length xs → n ≡ get_or xs 0 0 * 256 + get_or xs 1 0 → xs ≡ two n ++ take (length xs - 2) (drop 2 xs)
-two_of [] n f h e = absurd (omega arith)
-two_of (a ∷ []) n f h e = absurd (omega arith)
-two_of (a ∷ b ∷ l) n f h e = same2 (omega (arith, f 0, f 1)) (omega (arith, f 0, f 1)) (sym (take_all _ l (omega arith)))
-
-pub four_of_bytes : (xs : List ℕ) (n : ℕ) → ((i : ℕ) → get_or xs i 0 < 256) → 4 ≤ length xs → n ≡ get_or xs 0 0 * 16777216 + get_or xs 1 0 * 65536 + get_or xs 2 0 * 256 + get_or xs 3 0 → xs ≡ four n ++ take (length xs - 4) (drop 4 xs)
-four_of_bytes [] n f h e = absurd (omega arith)
-four_of_bytes (a ∷ []) n f h e = absurd (omega arith)
-four_of_bytes (a ∷ b ∷ []) n f h e = absurd (omega arith)
-four_of_bytes (a ∷ b ∷ c ∷ []) n f h e = absurd (omega arith)
-four_of_bytes (a ∷ b ∷ c ∷ d ∷ l) n f h e =
-    let f0 : a < 256 = f 0 in
-    let f1 : b < 256 = f 1 in
-    let f2 : c < 256 = f 2 in
-    let f3 : d < 256 = f 3 in
-    same2 (omega arith) (omega arith) (same2 (omega arith) (omega arith) (sym (take_all _ l (omega arith))))
 
 pub eight_of : (xs : List ℕ) (n : ℕ) → ((i : ℕ) → get_or xs i 0 < 256) → 8 ≤ length xs →
     n ≡ get_or xs 0 0 * 72057594037927936 + get_or xs 1 0 * 281474976710656 + get_or xs 2 0 * 1099511627776 + get_or xs 3 0 * 4294967296 + get_or xs 4 0 * 16777216 + get_or xs 5 0 * 65536 + get_or xs 6 0 * 256 + get_or xs 7 0 →
@@ -44,18 +27,6 @@ eight_of (a ∷ b ∷ c ∷ d ∷ x ∷ y ∷ z ∷ w ∷ l) n f h e =
     let f6 : z < 256 = f 6 in
     let f7 : w < 256 = f 7 in
     same2 (omega arith) (omega arith) (same2 (omega arith) (omega arith) (same2 (omega arith) (omega arith) (same2 (omega arith) (omega arith) (sym (take_all _ l (omega arith))))))
-
-pub front : (xs : List ℕ) → 1 ≤ length xs → xs ≡ get_or xs 0 0 ∷ take (length xs - 1) (drop 1 xs)
-front [] h = absurd (omega arith)
-front (x ∷ xs) h = ap (λ l. x ∷ l) (sym (take_all _ xs (omega arith)))
-
--- how long what stands behind the first byte is
-pub behind : (xs : List ℕ) → 1 ≤ length xs → length (take (length xs - 1) (drop 1 xs)) + 1 ≡ length xs
-behind xs h = omega (arith, ap length (front xs h))
-
-pub none : (xs : List ℕ) → length xs < 1 → xs ≡ []
-none [] h = refl
-none (x ∷ xs) h = absurd (omega arith)
 
 pub two_value : (n : ℕ) → n < 65536 → n ≡ n / 256 % 256 * 256 + n % 256
 two_value n h = omega arith
