@@ -1,9 +1,5 @@
 -- No two calls have the same bytes, and bytes of another length than a kind has are no call. Assumes nothing.
-use Rattle.std.proofs.Common.{◌≡◌, ℕ, ◌+◌, true, false, List, ◌∷◌, ◌-◌, ◌*◌, ◌≤◌, ◌==◌, cond, ◌++◌, length, get_or, take, drop, set, Some, None, Option, Ok, Err, Result, sym, refl, ap, ◌∙◌, subst, arith}
-use Rattle.std.proofs.lemmas.Slice.{take-put_mid, drop-put_mid}
-use Rattle.std.proofs.lemmas.List.{length-set, drop-set-lt}
-use Rattle.std.proofs.Math.Seq.{take-suc-set}
-use borrow.Rule.Slice.PartMut.{put_mid}
+use Rattle.std.proofs.Common.{◌≡◌, ℕ, ◌+◌, true, false, List, ◌∷◌, ◌*◌, ◌==◌, cond, length, get_or, drop, Some, None, Option, Ok, Err, Result, sym, refl, ap, ◌∙◌, subst, arith}
 use Rattle.std.specs.Option.{ok_or}
 use Rattle.streams.specs.Calls.{core}
 use Rattle.octets.specs.Form.{word_of}
@@ -103,10 +99,3 @@ read_as k bs rest o r n e h is = subst (λ (l : List ℕ). Reads l r) (sym e) (s
 pub unbuilt : (bs rest : List ℕ) → bs ≡ 4 ∷ rest → Reads bs (Err NotBuilt)
 unfolding core
 unbuilt bs rest e = (Drop (record { 0 = 0 }), rest, e, refl)
-
--- a byte written, and then others behind it
-pub headed : (b n : ℕ) (out ns : List ℕ) → n ≡ length ns + 1 → n ≤ length out → take n (put_mid 1 (n - 1) (set out 0 b) ns) ≡ b ∷ ns
-headed b n out ns h le = take-put_mid 1 (n - 1) (set out 0 b) ns n (omega arith) (simp length-set (omega arith)) ∙ ap (λ l. l ++ ns) (take-suc-set out 0 b (omega arith))
-
-pub headed_kept : (b n : ℕ) (out ns : List ℕ) → n ≡ length ns + 1 → n ≤ length out → drop n (put_mid 1 (n - 1) (set out 0 b) ns) ≡ drop n out
-headed_kept b n out ns h le = drop-put_mid 1 (n - 1) (set out 0 b) ns n (omega arith) (simp length-set (omega arith)) (omega arith) ∙ drop-set-lt n out 0 b (omega arith)

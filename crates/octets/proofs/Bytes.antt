@@ -1,6 +1,6 @@
 -- Numbers and their bytes, high byte first. Assumes nothing.
-use Rattle.std.proofs.Common.{◌≡◌, ℕ, ◌+◌, ◌-◌, ◌*◌, ◌/◌, ◌%◌, ◌<◌, ◌≤◌, List, [], ◌∷◌, ◌++◌, length, get_or, take, drop, sym, refl, ap, arith, take_all}
-use Rattle.octets.specs.Form.{two, four, eight}
+use Rattle.std.proofs.Common.{◌≡◌, ℕ, ◌+◌, ◌-◌, ◌*◌, ◌/◌, ◌%◌, ◌<◌, ◌≤◌, List, [], ◌∷◌, ◌++◌, length, get_or, take, drop, sym, ap, arith, take_all}
+use Rattle.octets.specs.Form.{two, eight}
 
 -- what two lists are equal by, element by element
 same2 : {a b a' b' : ℕ} {l l' : List ℕ} → a ≡ a' → b ≡ b' → l ≡ l' → a ∷ b ∷ l ≡ a' ∷ b' ∷ l'
@@ -40,9 +40,3 @@ four_value n h = omega (arith, eight_value n (omega arith))
 
 pub two_same : (m n : ℕ) (xs ys : List ℕ) → m < 65536 → n < 65536 → two m ++ xs ≡ two n ++ ys → (m ≡ n) × (xs ≡ ys)
 two_same m n xs ys hm hn e = (omega (arith, two_value m hm, two_value n hn, ap (λ l. get_or l 0 0) e, ap (λ l. get_or l 1 0) e), ap (drop 2) e)
-
-pub eight_same : (m n : ℕ) (xs ys : List ℕ) → m < 18446744073709551616 → n < 18446744073709551616 → eight m ++ xs ≡ eight n ++ ys → (m ≡ n) × (xs ≡ ys)
-eight_same m n xs ys hm hn e = (
-  omega (arith, eight_value m hm, eight_value n hn, ap (λ l. get_or l 0 0) e, ap (λ l. get_or l 1 0) e, ap (λ l. get_or l 2 0) e, ap (λ l. get_or l 3 0) e, ap (λ l. get_or l 4 0) e, ap (λ l. get_or l 5 0) e, ap (λ l. get_or l 6 0) e, ap (λ l. get_or l 7 0) e),
-  ap (drop 8) e,
-)

@@ -4,7 +4,7 @@ use lib.Seq.{take-append-add}
 use Rattle.std.proofs.lemmas.List.{drop-drop}
 use Rattle.streams.specs.Meaning.{Event}
 use Rattle.octets.specs.Form.{eight, word_of}
-use Rattle.octets.proofs.Bytes.{eight_of, eight_value, eight_same}
+use Rattle.octets.proofs.Bytes.{eight_of, eight_value}
 use Rattle.replies.specs.Form.{EachFit}
 use Rattle.replies.specs.Listing.{listing, first_of, listed, events_in, Got}
 use Rattle.calls.specs.Form.{event_bytes}
@@ -23,14 +23,16 @@ listed_at (suc n) (suc i) bs d h =
     let e : 24 + 24 * i ≡ 24 * suc i = omega arith in
     listed_at n i (drop 24 bs) d (omega arith) ∙ ap first_of (drop-drop (24 * i) 24 bs ∙ ap (λ k. drop k bs) e)
 
+-- the event whose bytes stand in front
+first_back : (e : Event) (rest : List ℕ) → e.time < 2 ^ 64 → e.key < 2 ^ 64 → e.value < 2 ^ 64 → first_of (eight e.time ++ eight e.key ++ eight e.value ++ rest) ≡ e
+first_back e rest t k v = λ i. record { time = sym (eight_value e.time t) i; key = sym (eight_value e.key k) i; value = sym (eight_value e.value v) i }
+
 -- the event that stands behind i others
 pub event_at : (i : ℕ) (bs rest : List ℕ) (e : code.Event) → e.time.0 < 2 ^ 64 → e.key.0 < 2 ^ 64 → e.value.0 < 2 ^ 64 → drop (24 * i) bs ≡ event_bytes e ++ rest → Got (events_in bs) i (Some e)
 event_at i bs rest e t k v is =
     let many = length_listed (length bs / 24) bs in
     let in_range : i < length bs / 24 = omega (arith, ap length is, length-drop (24 * i) bs) in
-    let first : first_of (event_bytes e ++ rest) ≡ as_event e =
-    λ j. record { time = sym (eight_value e.time.0 t) j; key = sym (eight_value e.key.0 k) j; value = sym (eight_value e.value.0 v) j } in
-    (omega arith, listed_at (length bs / 24) i bs (as_event e) in_range ∙ ap first_of is ∙ first)
+    (omega arith, listed_at (length bs / 24) i bs (as_event e) in_range ∙ ap first_of is ∙ first_back (as_event e) rest t k v)
 
 pub none_at : (i : ℕ) (bs : List ℕ) → length bs < 24 * i + 24 → Got (events_in bs) i None
 none_at i bs h = omega (arith, length_listed (length bs / 24) bs)
@@ -72,14 +74,7 @@ pub length_listing : (es : List Event) → length (listing es) ≡ 24 * length e
 length_listing [] = refl
 length_listing (e ∷ es) = omega (arith, length_listing es)
 
--- two lists of events that are listed alike are one
-pub listing_same : (es fs : List Event) → EachFit es → EachFit fs → listing es ≡ listing fs → es ≡ fs
-listing_same [] [] f g e = refl
-listing_same [] (y ∷ ys) f g e = absurd (omega (arith, ap length e))
-listing_same (x ∷ xs) [] f g e = absurd (omega (arith, ap length e))
-listing_same (x ∷ xs) (y ∷ ys) f g e =
-    let t = eight_same x.time y.time _ _ f.0 g.0 e in
-    let k = eight_same x.key y.key _ _ f.1 g.1 t.1 in
-    let v = eight_same x.value y.value _ _ f.2 g.2 k.1 in
-    let rest = listing_same xs ys f.3 g.3 v.1 in
-    λ i. record { time = t.0 i; key = k.0 i; value = v.0 i } ∷ rest i
+-- what was listed is read again
+pub listing_back : (es : List Event) → EachFit es → listed (length es) (listing es) ≡ es
+listing_back [] f = refl
+listing_back (e ∷ es) f = (λ i. first_back e (listing es) f.0 f.1 f.2 i ∷ listing_back es f.3 i)

@@ -1,8 +1,8 @@
 -- No two answers have the same bytes, and which bytes are no answer's. Assumes nothing.
-use Rattle.std.proofs.Common.{◌≡◌, ℕ, Bool, true, false, nat_eq, ◌+◌, ◌*◌, ◌/◌, ◌<◌, ◌≤◌, List, [], ◌∷◌, ◌++◌, length, get_or, take, drop, set, None, Option, sym, refl, ap, ◌∙◌, subst, arith, take_all}
+use Rattle.std.proofs.Common.{◌≡◌, ℕ, Bool, true, false, nat_eq, cond, ◌==◌, ◌+◌, ◌*◌, ◌/◌, ◌<◌, ◌≤◌, List, [], ◌∷◌, ◌++◌, length, get_or, take, drop, set, None, Option, sym, refl, ap, ◌∙◌, subst, arith, take_all}
 use Rattle.streams.specs.Calls.{Reply, No, Yes, Outs, Full}
 use Rattle.octets.specs.Form.{two}
-use Rattle.octets.proofs.Bytes.{two_same}
+use Rattle.octets.proofs.Bytes.{two_value, two_same}
 use Rattle.octets.proofs.Front.{later}
 use Rattle.std.proofs.lemmas.List.{drop-set-lt}
 use Rattle.std.proofs.Math.Seq.{take-suc-set}
@@ -13,32 +13,25 @@ use Rattle.replies.specs.declared.events.Events.{Events}
 use Rattle.replies.specs.declared.kinds.Kind.{Kind}
 use Rattle.replies.specs.declared.kinds.Kind.TheVariants as kind
 use Rattle.replies.specs.Kinds.{byte_of}
-use Rattle.replies.specs.Listing.{listing, events_in}
+use Rattle.replies.specs.Listing.{listing, listed, events_in}
 use Rattle.replies.specs.Form.{form, Fit, Reads, Written}
-use Rattle.replies.proofs.Listed.{later_byte, each_fit, length_listed, listing_of, length_listing, listing_same}
+use Rattle.replies.proofs.Listed.{later_byte, each_fit, length_listed, listing_of, length_listing, listing_back}
 
 kinds : {j k : ℕ} {xs ys : List ℕ} → j ∷ xs ≡ k ∷ ys → j ≡ k
 kinds e = ap (λ l. get_or l 0 0) e
 
+-- the answer that has these bytes, if one has
+abbrev reply_at : List ℕ → Reply
+reply_at bs = cond (get_or bs 0 0 == 0) (No (get_or bs 1 0)) (cond (get_or bs 0 0 == 1) Yes (cond (get_or bs 0 0 == 2) (Outs (listed (get_or bs 1 0 * 256 + get_or bs 2 0) (drop 3 bs))) Full))
+
+reply_back : (a : Reply) → Fit a → reply_at (form a) ≡ a
+reply_back (No n) f = refl
+reply_back Yes f = refl
+reply_back (Outs es) f = ap Outs (ap (λ n. listed n (listing es)) (sym (two_value (length es) f.0)) ∙ listing_back es f.1)
+reply_back Full f = refl
+
 one_reply : (a b : Reply) → Fit a → Fit b → form a ≡ form b → a ≡ b
-one_reply (No m) (No n) f g e = ap No (ap (λ l. get_or l 1 0) e)
-one_reply (No m) Yes f g e = absurd (omega (arith, kinds e))
-one_reply (No m) (Outs fs) f g e = absurd (omega (arith, kinds e))
-one_reply (No m) Full f g e = absurd (omega (arith, kinds e))
-one_reply Yes (No n) f g e = absurd (omega (arith, kinds e))
-one_reply Yes Yes f g e = refl
-one_reply Yes (Outs fs) f g e = absurd (omega (arith, kinds e))
-one_reply Yes Full f g e = absurd (omega (arith, kinds e))
-one_reply (Outs es) (No n) f g e = absurd (omega (arith, kinds e))
-one_reply (Outs es) Yes f g e = absurd (omega (arith, kinds e))
-one_reply (Outs es) (Outs fs) f g e =
-    let rest = two_same (length es) (length fs) _ _ f.0 g.0 (ap (drop 1) e) in
-    ap Outs (listing_same es fs f.1 g.1 rest.1)
-one_reply (Outs es) Full f g e = absurd (omega (arith, kinds e))
-one_reply Full (No n) f g e = absurd (omega (arith, kinds e))
-one_reply Full Yes f g e = absurd (omega (arith, kinds e))
-one_reply Full (Outs fs) f g e = absurd (omega (arith, kinds e))
-one_reply Full Full f g e = refl
+one_reply a b f g e = sym (reply_back a f) ∙ ap reply_at e ∙ reply_back b g
 
 told : (bs : List ℕ) (x : Reply) → Fit x → bs ≡ form x → (bs ≡ form x) × ((a : Reply) → Fit a → bs ≡ form a → x ≡ a)
 told bs x f e = (e, λ a g h. one_reply x a f g (sym e ∙ h))

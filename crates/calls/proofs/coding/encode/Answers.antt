@@ -1,6 +1,7 @@
 use Rattle.std.proofs.Common.{◌≡◌, ◌+◌, length, ◌∷◌, ap, ◌∙◌, rules, arith}
 use Rattle.calls.specs.Form.{byte_of, size_of}
-use Rattle.calls.proofs.Same.{long, headed, headed_kept}
+use Rattle.octets.proofs.Front.{headed, headed_kept}
+use Rattle.calls.proofs.Same.{long}
 use Rattle.calls.proofs.coding.encode.Goals as goal
 
 pub write_numbers-requires : goal.write_numbers-requires
