@@ -7,7 +7,7 @@ ghost use Rattle.std.proofs.Common.{rules};
 ghost use Rattle.octets.specs.Form.{two, four, eight};
 
 // A type of numbers that have N bytes each, high byte first.
-pub trait Octets<const N: usize>: Copy {
+pub trait Octets<const N: usize> {
     ghost form: { Self → List ℕ };
 
     fn from_octets(bytes: &[u8; N]) -> Self
@@ -16,6 +16,7 @@ pub trait Octets<const N: usize>: Copy {
     fn octets(self) -> [u8; N]
         ensures { result ≡ form self };
 
+    // So few can be lent as an array.
     ghost few: { N ≤ 8 };
 }
 
@@ -26,11 +27,11 @@ impl Octets<2> for u16 {
         u16::from_be_bytes(*bytes)
     }
 
-    ghost few = { Prim.search rules };
-
     fn octets(self) -> [u8; 2] {
         u16::to_be_bytes(self)
     }
+
+    ghost few = { Prim.search rules };
 }
 
 impl Octets<4> for u32 {
@@ -40,11 +41,11 @@ impl Octets<4> for u32 {
         u32::from_be_bytes(*bytes)
     }
 
-    ghost few = { Prim.search rules };
-
     fn octets(self) -> [u8; 4] {
         u32::to_be_bytes(self)
     }
+
+    ghost few = { Prim.search rules };
 }
 
 impl Octets<8> for u64 {
@@ -54,11 +55,11 @@ impl Octets<8> for u64 {
         u64::from_be_bytes(*bytes)
     }
 
-    ghost few = { Prim.search rules };
-
     fn octets(self) -> [u8; 8] {
         u64::to_be_bytes(self)
     }
+
+    ghost few = { Prim.search rules };
 }
 
 // The number at the front of some bytes, and what stands behind it.
