@@ -23,9 +23,15 @@ use tokens::faults::Fault;
 // greatest.
 const PLAN: &[u8; 45] = b"late 10; in 100 count; key 0 in 1000 greatest";
 
+// So many events are asked for at a time.
+const MOST: u16 = 1024;
+
 // A script as far as it was played.
 #[derive(Drop)]
-struct Play {
+struct Play<'a> {
+    rt: &'a HostRuntime,
+    // the number of the line that is played
+    at: u64,
     // the text of the plan, with which the keeper begins again when the number of logs is said
     text: Vec<u8>,
     logs: u16,
@@ -53,9 +59,10 @@ fn tell(rt: &HostRuntime, stop: &Stop) -> io::Result<()> {
 
 fn run(rt: &HostRuntime) -> Result<(), Stop> {
     let script = input(rt)?;
-    let mut play = begin(rt.alloc())?;
+    let mut play = begin(rt)?;
     for (at, line) in (1..u64::MAX).zip(script.as_slice().split(|c| *c == b'\n')) {
-        play.line(rt, at, line)?;
+        play.at = at;
+        play.line(line)?;
     }
     Ok(())
 }
@@ -72,9 +79,12 @@ fn input(rt: &HostRuntime) -> Result<Vec<u8>, Stop> {
     Ok(bytes)
 }
 
-fn begin(heap: Global) -> Result<Play, Stop> {
+fn begin(rt: &HostRuntime) -> Result<Play<'_>, Stop> {
+    let heap = rt.alloc();
     let plan = read(heap, PLAN).map_err(|_| Stop::Memory)?;
     Ok(Play {
+        rt,
+        at: 0,
         text: Vec::from_slice(heap, PLAN)?,
         logs: 1,
         keeper: Keeper::begin(heap, plan, 1)?,
@@ -82,64 +92,61 @@ fn begin(heap: Global) -> Result<Play, Stop> {
     })
 }
 
-impl Play {
-    fn line(&mut self, rt: &HostRuntime, at: u64, line: &[u8]) -> Result<(), Stop> {
+impl Play<'_> {
+    fn line(&mut self, line: &[u8]) -> Result<(), Stop> {
         match parse(line) {
             Ok(Command::Nothing) => {}
-            Ok(Command::Plan { at: from }) => self.plan(rt, at, line, from)?,
-            Ok(Command::PlanFile { at: from }) => self.plan_file(rt, at, line, from)?,
-            Ok(Command::Logs { count }) => self.logs(rt, at, count)?,
-            Ok(Command::Put { log, entry }) => self.put(rt, at, log, entry)?,
-            Ok(Command::All) => self.all(rt, at)?,
-            Ok(Command::Out { from, most }) => self.out(rt, at, from, most)?,
-            Ok(Command::Drop { before }) => self.drop_before(rt, at, before)?,
-            Err(complaint) => println!(rt; "line {at}: {complaint}")?,
+            Ok(Command::Plan { at: from }) => self.plan(line, from)?,
+            Ok(Command::PlanFile { at: from }) => self.plan_file(line, from)?,
+            Ok(Command::Logs { count }) => self.logs(count)?,
+            Ok(Command::Put { log, entry }) => self.put(log, entry)?,
+            Ok(Command::All) => self.all()?,
+            Ok(Command::Out { from, most }) => self.out(from, most)?,
+            Ok(Command::Drop { before }) => self.drop_before(before)?,
+            Err(complaint) => println!(self.rt; "line {}: {complaint}", self.at)?,
         }
         Ok(())
     }
 
     // plan TEXT
-    fn plan(&mut self, rt: &HostRuntime, at: u64, line: &[u8], from: usize) -> Result<(), Stop> {
+    fn plan(&mut self, line: &[u8], from: usize) -> Result<(), Stop> {
         let text = &line[from.min(line.len())..];
         if self.called {
-            return too_late(rt, at);
+            return self.say("a plan comes before the first call");
         }
-        match self.begin(rt.alloc(), text) {
+        match self.begin(self.rt.alloc(), text) {
             Ok(()) => Ok(()),
             Err(Fault::Memory) => Err(Stop::Memory),
             Err(Fault::Refused(refusal)) => {
                 let column = refusal.at.saturating_add(from).saturating_add(1);
                 let why = refusal.why;
-                Ok(println!(rt; "line {at}, column {column}: {why}")?)
+                Ok(println!(self.rt; "line {}, column {column}: {why}", self.at)?)
             }
         }
     }
 
     // plan-file NAME
-    fn plan_file(
-        &mut self,
-        rt: &HostRuntime,
-        at: u64,
-        line: &[u8],
-        from: usize,
-    ) -> Result<(), Stop> {
+    fn plan_file(&mut self, line: &[u8], from: usize) -> Result<(), Stop> {
         let name = line[from.min(line.len())..].trim_ascii();
         let Ok(name) = from_utf8(name) else {
-            return unreadable(rt, at);
+            return self.say("the plan's file cannot be read");
         };
-        let Ok(text) = fs::read(rt, name) else {
-            return unreadable(rt, at);
+        let Ok(text) = fs::read(self.rt, name) else {
+            return self.say("the plan's file cannot be read");
         };
         if self.called {
-            return too_late(rt, at);
+            return self.say("a plan comes before the first call");
         }
-        match self.begin(rt.alloc(), text.as_slice()) {
+        match self.begin(self.rt.alloc(), text.as_slice()) {
             Ok(()) => Ok(()),
             Err(Fault::Memory) => Err(Stop::Memory),
             Err(Fault::Refused(refusal)) => {
                 let place = locate(text.as_slice(), refusal.at);
                 let (row, column, why) = (place.line, place.column, refusal.why);
-                Ok(println!(rt; "line {at}: {name}, line {row}, column {column}: {why}")?)
+                Ok(println!(self.rt;
+                    "line {}: {name}, line {row}, column {column}: {why}",
+                    self.at
+                )?)
             }
         }
     }
@@ -153,43 +160,40 @@ impl Play {
     }
 
     // logs N
-    fn logs(&mut self, rt: &HostRuntime, at: u64, count: u64) -> Result<(), Stop> {
+    fn logs(&mut self, count: u64) -> Result<(), Stop> {
         if self.called {
-            println!(rt; "line {at}: logs are counted before the first call")?;
-            return Ok(());
+            return self.say("logs are counted before the first call");
         }
         let Ok(count @ 1..=256) = u16::try_from(count) else {
-            println!(rt; "line {at}: there are 1 to 256 logs")?;
-            return Ok(());
+            return self.say("there are 1 to 256 logs");
         };
-        let plan = read(rt.alloc(), self.text.as_slice()).map_err(|_| Stop::Memory)?;
-        self.keeper = Keeper::begin(rt.alloc(), plan, count)?;
+        let plan = read(self.rt.alloc(), self.text.as_slice()).map_err(|_| Stop::Memory)?;
+        self.keeper = Keeper::begin(self.rt.alloc(), plan, count)?;
         self.logs = count;
         Ok(())
     }
 
     // put L T K V, still L T
-    fn put(&mut self, rt: &HostRuntime, at: u64, log: u64, entry: Entry) -> Result<(), Stop> {
+    fn put(&mut self, log: u64, entry: Entry) -> Result<(), Stop> {
         self.called = true;
         let Ok(log) = u8::try_from(log) else {
-            println!(rt; "line {at}: a log is 0 to 255")?;
-            return Ok(());
+            return self.say("a log is 0 to 255");
         };
         match self.keeper.put(LogNumber(log), entry) {
             Ok(()) => Ok(()),
-            Err(undone) => tell_undone(rt, at, undone),
+            Err(undone) => self.tell_undone(undone),
         }
     }
 
     // out: all that came out
-    fn all(&mut self, rt: &HostRuntime, at: u64) -> Result<(), Stop> {
+    fn all(&mut self) -> Result<(), Stop> {
         self.called = true;
         for from in (0..u64::MAX).step_by(usize::from(MOST)) {
-            let part = match self.keeper.out(rt.alloc(), Place(from), MOST) {
+            let part = match self.keeper.out(self.rt.alloc(), Place(from), MOST) {
                 Ok(part) => part,
-                Err(undone) => return tell_undone(rt, at, undone),
+                Err(undone) => return self.tell_undone(undone),
             };
-            print_events(rt, from, part.as_slice())?;
+            self.print_events(from, part.as_slice())?;
             if part.len() < usize::from(MOST) {
                 break;
             }
@@ -198,54 +202,50 @@ impl Play {
     }
 
     // out FROM MOST
-    fn out(&mut self, rt: &HostRuntime, at: u64, from: u64, most: u64) -> Result<(), Stop> {
+    fn out(&mut self, from: u64, most: u64) -> Result<(), Stop> {
         self.called = true;
         let Ok(most) = u16::try_from(most) else {
-            println!(rt; "line {at}: at most 65535 are asked for")?;
-            return Ok(());
+            return self.say("at most 65535 are asked for");
         };
-        match self.keeper.out(rt.alloc(), Place(from), most) {
-            Ok(part) => print_events(rt, from, part.as_slice()),
-            Err(undone) => tell_undone(rt, at, undone),
+        match self.keeper.out(self.rt.alloc(), Place(from), most) {
+            Ok(part) => self.print_events(from, part.as_slice()),
+            Err(undone) => self.tell_undone(undone),
         }
     }
 
     // drop BEFORE
-    fn drop_before(&mut self, rt: &HostRuntime, at: u64, before: u64) -> Result<(), Stop> {
+    fn drop_before(&mut self, before: u64) -> Result<(), Stop> {
         self.called = true;
         let before = Place(before);
         match (Call::Drop { before }).check(self.logs) {
             Ok(()) => Ok(()),
-            Err(why) => tell_undone(rt, at, Undone::Refused(why)),
+            Err(why) => self.tell_undone(Undone::Refused(why)),
         }
     }
-}
 
-// So many events are asked for at a time.
-const MOST: u16 = 1024;
-
-// Each event on a line: its place, time, key and value.
-fn print_events(rt: &HostRuntime, from: u64, events: &[Event]) -> Result<(), Stop> {
-    for (place, event) in (from..=u64::MAX).zip(events) {
-        let Event { time, key, value } = *event;
-        println!(rt; "{place}: {} {} {}", time.0, key.0, value.0)?;
+    // Each event on a line: its place, time, key and value.
+    fn print_events(&self, from: u64, events: &[Event]) -> Result<(), Stop> {
+        for (place, event) in (from..=u64::MAX).zip(events) {
+            let Event { time, key, value } = *event;
+            println!(self.rt; "{place}: {} {} {}", time.0, key.0, value.0)?;
+        }
+        Ok(())
     }
-    Ok(())
-}
 
-fn too_late(rt: &HostRuntime, at: u64) -> Result<(), Stop> {
-    Ok(println!(rt; "line {at}: a plan comes before the first call")?)
-}
+    // Something about the line.
+    fn say(&self, what: &str) -> Result<(), Stop> {
+        Ok(println!(self.rt; "line {}: {what}", self.at)?)
+    }
 
-fn unreadable(rt: &HostRuntime, at: u64) -> Result<(), Stop> {
-    Ok(println!(rt; "line {at}: the plan's file cannot be read")?)
-}
-
-// Why a call was not done: the number of its refusal. Plans that are read are within their limits, so else only memory can
-// be wanting.
-fn tell_undone(rt: &HostRuntime, at: u64, undone: Undone) -> Result<(), Stop> {
-    match undone {
-        Undone::Refused(why) => Ok(println!(rt; "line {at}: refused, {}", u8::from(why))?),
-        Undone::BadPlan | Undone::Memory => Err(Stop::Memory),
+    // Why a call was not done: the number of its refusal. Plans that are read are within their limits, so else only memory
+    // can be wanting.
+    fn tell_undone(&self, undone: Undone) -> Result<(), Stop> {
+        match undone {
+            Undone::Refused(why) => {
+                let number = u8::from(why);
+                Ok(println!(self.rt; "line {}: refused, {number}", self.at)?)
+            }
+            Undone::BadPlan | Undone::Memory => Err(Stop::Memory),
+        }
     }
 }
