@@ -63,12 +63,13 @@ pub fn decode(bytes: &[u8]) -> Result<Call, Refusal>
     ensures again { ReadAgain bytes.now result }
 {
     let (kind, rest) = bytes.split_first().ok_or(Refusal::Invalid)?;
-    match Kind::try_from(*kind)? {
-        Kind::Put => put_from(rest).ok_or(Refusal::Invalid),
-        Kind::Still => still_from(rest).ok_or(Refusal::Invalid),
-        Kind::Out => out_from(rest).ok_or(Refusal::Invalid),
-        Kind::Drop => Err(Refusal::NotBuilt),
-    }
+    let call = match Kind::try_from(*kind)? {
+        Kind::Put => put_from(rest),
+        Kind::Still => still_from(rest),
+        Kind::Out => out_from(rest),
+        Kind::Drop => return Err(Refusal::NotBuilt),
+    };
+    call.ok_or(Refusal::Invalid)
 }
 
 // Writes what stands behind the kind of a call.

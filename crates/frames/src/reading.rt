@@ -36,6 +36,7 @@ fn front(traffic: Traffic, bytes: &[u8]) -> Option<Result<Frame<'_>, Fault>>
     if length > LONGEST {
         return Some(Err(Fault::TooLong));
     }
+    // the number has eight bytes, and a call or an answer one at least
     if length < 9 {
         return Some(Err(Fault::TooShort));
     }
