@@ -6,4 +6,5 @@
 pub mod flow;
 pub mod row;
 pub mod segments;
+pub mod sorted;
 pub mod table;

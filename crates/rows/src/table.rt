@@ -1,13 +1,13 @@
 // Sorted rows in memory that is lent.
 // What is called here requires room of its caller, the code that lends the memory: it has proved it, so that nothing is
 // tested twice.
-ghost use Rattle.std.specs.Prelude.{◌≡◌, ◌+◌, ◌*◌, ◌^◌, ◌<◌, ◌≤◌, ◌++◌, length, take, drop};
+ghost use Rattle.std.specs.Prelude.{◌≡◌, ◌+◌, ◌<◌, ◌≤◌, ◌++◌, length, take, drop};
 ghost use Rattle.book.specs.Rows.{Sorted, add as added, onto};
 ghost use Rattle.book.specs.Words.{write_all, write_row};
-ghost use Rattle.rows.specs.Model.{key_of, row_of, rows_of, aggregates_of};
-ghost use Rattle.rows.specs.Search.{Splits, HeldAt};
+ghost use Rattle.rows.specs.Model.{row_of, rows_of, aggregates_of};
 
-use crate::row::{Row, RowKey, RowWords, aggregate_of, join};
+use crate::row::{Row, RowWords, aggregate_of, join};
+use crate::sorted::SortedRows;
 use plans::stages::Stage;
 use std::marker::Model;
 use std::ops::Range;
@@ -18,44 +18,6 @@ pub fn words_of(rows: &[RowWords]) -> &[u64]
     ensures { result.now ≡ write_all write_row (rows_of rows.now) }
 {
     rows.as_flattened()
-}
-
-// Where a key stands among rows, and how many of them were read to find it.
-#[derive(Clone, Copy)]
-pub struct Found {
-    pub place: usize,
-    pub read: usize,
-}
-
-// How many rows stand before a key, by halving: it reads at most one row more than the binary logarithm of their number.
-// The library's `partition_point` halves too, but its contract does not say how often it reads.
-pub fn find(rows: &[RowWords], key: RowKey) -> Found
-    requires sorted { Sorted (rows_of rows.now) }
-    ensures place { Splits (key_of key) (rows_of rows.now) result.place }
-    ensures read { 2 ^ result.read ≤ 2 * length rows.now + 1 }
-{
-    let mut low = 0;
-    let mut high = rows.len();
-    let mut read = 0;
-    while low < high {
-        let mid = low + (high - low) / 2;
-        let row = Row::from(rows[mid]);
-        read += 1;
-        if row.at < key {
-            low = mid + 1;
-        } else {
-            high = mid;
-        }
-    }
-    Found { place: low, read }
-}
-
-// The row of a key, if it stands at i.
-fn row_at(rows: &[RowWords], i: usize, key: RowKey) -> Option<Row>
-    ensures { HeldAt (key_of key) (rows_of rows.now) i result }
-{
-    let row = Row::from(*rows.get(i)?);
-    (key == row.at).then_some(row)
 }
 
 #[derive(Drop)]
@@ -96,14 +58,19 @@ impl<'a> Rows<'a> {
         self.table.as_slice()
     }
 
+    pub fn as_sorted(&self) -> SortedRows<'_>
+        ensures { result ≡ self.now.items }
+    {
+        SortedRows::new(self.table.as_slice())
+    }
+
     // Other rows in place of all.
-    pub fn assign(&mut self, from: &[RowWords])
-        requires room { length from.now ≤ self.old.room }
-        requires sorted { Sorted (rows_of from.now) }
-        ensures rows { self.new.items ≡ rows_of from.now }
+    pub fn assign(&mut self, from: &SortedRows<'_>)
+        requires { length from.now ≤ self.old.room }
+        ensures rows { self.new.items ≡ from.now }
         ensures room { self.new.room ≡ self.old.room }
     {
-        self.table.assign(from);
+        self.table.assign(from.as_slice());
     }
 
     // Adds a row, joined with the one of its key if there is one.
@@ -113,9 +80,9 @@ impl<'a> Rows<'a> {
         ensures few { length self.new.items ≤ length self.old.items + 1 }
         ensures room { self.new.room ≡ self.old.room }
     {
-        let rows = self.table.as_slice();
-        let place = find(rows, row.at).place;
-        match row_at(rows, place, row.at) {
+        let rows = self.as_sorted();
+        let place = rows.find(row.at).place;
+        match rows.row_at(place, row.at) {
             Some(old) => {
                 let how = aggregate_of(stages, old.at.stage);
                 let value = join(how, old.value, row.value);

@@ -1,6 +1,5 @@
 // The rows that are spilled, and those of the page that was shown: as one page, or as two where they are too many for one.
 ghost use Rattle.std.specs.Prelude.{◌≡◌, ℕ, ◌+◌, ◌*◌, ◌≤◌, length};
-ghost use Rattle.book.specs.Rows.{Sorted};
 ghost use Rattle.book.specs.Queue.{RowPage, spill_by};
 ghost use Rattle.rows.specs.Model.{rows_of, aggregates_of};
 ghost use Rattle.segs.specs.Model.{page_link, seg_of};
@@ -9,15 +8,16 @@ ghost use Rattle.spills.specs.Room.{SamePages};
 
 use plans::stages::Stage;
 use rows::row::RowWords;
+use rows::sorted::SortedRows;
 use rows::table::Rows;
 use segs::segment::{PageNumber, Segment};
 use tables::Table;
 
 // A row page that is shown: the page below it, and its rows.
-#[derive(Clone, Copy)]
+#[derive(Drop)]
 pub struct Shown<'a> {
     pub below: Option<PageNumber>,
-    pub rows: &'a [RowWords],
+    pub rows: SortedRows<'a>,
 }
 
 // Memory for the pages that are written: the first, and the second where rows are too many for one.
@@ -51,7 +51,7 @@ fn split(pages: &mut Pages<'_>)
 // others; else in a page of their own before it.
 pub fn join_page(
     pages: &mut Pages<'_>,
-    shown: Shown<'_>,
+    shown: &Shown<'_>,
     segment: Segment,
     size: usize,
     stages: &[Stage],
@@ -60,16 +60,15 @@ pub fn join_page(
     requires out { size ≤ pages.old.out.room }
     requires upper { 2 * size ≤ pages.old.upper.room }
     requires moved { length pages.old.out.items ≤ size }
-    requires shown { length shown.rows.now ≤ size }
-    requires sorted { Sorted (rows_of shown.rows.now) }
-    ensures is { (n : ℕ) → spilt_of n (seg_of segment) (rows_of pages.new.out.items) pages.new.upper.items result ≡ spill_by (aggregates_of stages.now) size n (RowPage (page_link shown.entry.below) (rows_of shown.entry.rows.now)) (page_link segment.head) (seg_of segment) (rows_of pages.old.out.items) }
+    requires shown { length shown.now.rows ≤ size }
+    ensures is { (n : ℕ) → spilt_of n (seg_of segment) (rows_of pages.new.out.items) pages.new.upper.items result ≡ spill_by (aggregates_of stages.now) size n (RowPage (page_link shown.now.below) shown.now.rows) (page_link segment.head) (seg_of segment) (rows_of pages.old.out.items) }
     ensures few { Few size (rows_of pages.new.out.items) pages.new.upper.items result }
     ensures room { SamePages pages.old pages.new }
 {
     if segment.head.is_none() {
         return Spilt::One { below: None };
     }
-    pages.upper.assign(shown.rows);
+    pages.upper.assign(&shown.rows);
     pages.upper.merge(pages.out.as_slice(), stages);
     if pages.upper.as_slice().len() <= size {
         pages.out.assign(pages.upper.as_slice());

@@ -1,7 +1,6 @@
 // The step itself: a segment's share out of the buffer, its pages, and what becomes of the segment.
 ghost use Rattle.std.specs.Prelude.{◌≡◌, suc, ◌+◌, ◌*◌, ◌<◌, ◌≤◌, length};
 ghost use Rattle.streams.specs.Meaning.{top};
-ghost use Rattle.book.specs.Rows.{Sorted};
 ghost use Rattle.book.specs.Queue.{RowPage};
 ghost use Rattle.rows.specs.Model.{rows_of, aggregates_of};
 ghost use Rattle.rows.specs.Segments.{IsRange};
@@ -63,7 +62,7 @@ pub fn spill(
     queue: &mut Queue<'_>,
     i: usize,
     range: KeyRange,
-    shown: Shown<'_>,
+    shown: &Shown<'_>,
     size: usize,
     pages: &mut Pages<'_>,
     stages: &[Stage],
@@ -75,9 +74,8 @@ pub fn spill(
     requires size { 1 ≤ size }
     requires out { size ≤ pages.old.out.room }
     requires upper { 2 * size ≤ pages.old.upper.room }
-    requires shown { length shown.rows.now ≤ size }
-    requires sorted { Sorted (rows_of shown.rows.now) }
-    ensures spills { Spills (aggregates_of stages.now) size i (RowPage (page_link shown.entry.below) (rows_of shown.entry.rows.now)) queue.old queue.new (rows_of pages.new.out.items) pages.new.upper.items result }
+    requires shown { length shown.now.rows ≤ size }
+    ensures spills { Spills (aggregates_of stages.now) size i (RowPage (page_link shown.now.below) shown.now.rows) queue.old queue.new (rows_of pages.new.out.items) pages.new.upper.items result }
     ensures few { Few size (rows_of pages.new.out.items) pages.new.upper.items result }
     ensures buffer { length queue.new.buffer.items ≤ length queue.old.buffer.items }
     ensures segments { length queue.new.segments.items ≤ length queue.old.segments.items + 1 }

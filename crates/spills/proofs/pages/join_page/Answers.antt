@@ -25,7 +25,7 @@ returns-then-is_none-3-clause-is c =
     let long = as_long c.as_slice-2.result.now c.as_slice-2.ensures.rows in
     let half = length-drop (length c.merge.new.self.items / 2) c.merge.new.self.items in
     λ n. join_two _ _ n _ _ _ _ _ _ _ _ _ (a_link c.args.segment.head c.if-is_none.ensures).1 all (omega (arith, long, c.if-as_slice-size.false))
-    (no_link c.args.segment.index c.if-is_none-2.ensures) (no_link c.args.shown.below c.if-is_none-3.ensures) c.split.ensures.halves
+    (no_link c.args.segment.index c.if-is_none-2.ensures) (no_link c.args.shown.now.below c.if-is_none-3.ensures) c.split.ensures.halves
     (omega (arith, ap length c.split.ensures.halves.1, half, long, c.if-as_slice-size.false, c.requires.size))
 
 pub returns-clause-is : goal.returns-clause-is
@@ -33,8 +33,8 @@ returns-clause-is c =
     let moved = ap rows_of c.as_slice.ensures.items in
     let all = joined (aggregates_of c.args.stages.now) c.merge.ensures.rows moved c.assign.ensures.rows in
     let long = as_long c.as_slice-2.result.now c.as_slice-2.ensures.rows in
-    let other : (a : ℕ) × ((page_link c.args.segment.index ≡ page a) ⊎ (page_link c.args.shown.below ≡ page a)) = elim c.else-is_none-2.branch [
-      | else-is_none-2-via-then-is_none-2+else-is_none-3 w ↦ let l = a_link c.args.shown.below w.if-is_none-3.ensures in (l.0, inr l.1)
+    let other : (a : ℕ) × ((page_link c.args.segment.index ≡ page a) ⊎ (page_link c.args.shown.now.below ≡ page a)) = elim c.else-is_none-2.branch [
+      | else-is_none-2-via-then-is_none-2+else-is_none-3 w ↦ let l = a_link c.args.shown.now.below w.if-is_none-3.ensures in (l.0, inr l.1)
       | else-is_none-2-via-else-is_none-2 w ↦ let l = a_link c.args.segment.index w.if-is_none-2.ensures in (l.0, inl l.1)
     ] in
     λ n. join_beside _ _ n _ _ _ _ _ _ _ _ (a_link c.args.segment.head c.if-is_none.ensures).1 all (omega (arith, long, c.if-as_slice-size.false)) other.1

@@ -26,7 +26,7 @@ returns-clause-spills c = record { queue = queue; writes = writes }
     ss = segs_of c.args.queue.now.segments.items
 
     shown : book.Page
-    shown = book.RowPage (page_link c.args.shown.below) (rows_of c.args.shown.rows.now)
+    shown = book.RowPage (page_link c.args.shown.now.below) c.args.shown.now.rows
 
     moved : List Row
     moved = book.pick c.args.size (book.is_of i ss) c.args.queue.now.buffer.items

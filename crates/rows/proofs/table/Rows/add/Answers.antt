@@ -1,5 +1,6 @@
 use Rattle.std.proofs.Common.{◌≡◌, ap, ◌∙◌, subst, sym}
-use Rattle.book.specs.Rows.{Sorted, put, add}
+use Rattle.tables.specs.Lent.{Lent}
+use Rattle.book.specs.Rows.{Row, Sorted, put, add}
 use Rattle.rows.specs.Model.{row_of, rows_of, aggregates_of}
 use Rattle.rows.proofs.Order.{sorted_add}
 use Rattle.rows.proofs.Places.{add_put, add_set}
@@ -8,15 +9,17 @@ use Rattle.rows.proofs.table.Rows.add.Goals as goal
 joined : (c : goal.After-set) → rows_of c.set.new.self.items ≡ add (aggregates_of c.args.stages.now) (row_of c.args.row) (rows_of c.self.inside.table.items)
 joined c =
     let old = row_of c.in-Some.old in
-    let place = rw c.as_slice-rows.ensures.items at c.find-place.ensures.place in
-    let here = rw c.as_slice-rows.ensures.items at c.in-Some.ensures in
+    let is = c.as_sorted-rows.ensures ∙ sym (ap (λ (x : Lent Row). x.items) c.self.view_is) in
+    let place = rw is at c.find-place.ensures.place in
+    let here = rw is at c.in-Some.ensures in
     let e = c.join-value.ensures ∙ ap (λ z. put z old.value (row_of c.args.row).value) c.aggregate_of-how.ensures in
     ap rows_of c.set.ensures.items ∙ add_set (aggregates_of c.args.stages.now) (row_of c.args.row) c.self.inside.table.items c.find-place.result.place c.join-value.result.0 c.in-Some.old c.into.result place here c.into.ensures e
 
 new : (c : goal.After-insert_from_slice) → rows_of c.insert_from_slice.new.self.items ≡ add (aggregates_of c.args.stages.now) (row_of c.args.row) (rows_of c.self.inside.table.items)
 new c =
-    let place = rw c.as_slice-rows.ensures.items at c.find-place.ensures.place in
-    let none = rw c.as_slice-rows.ensures.items at c.in-None.ensures in
+    let is = c.as_sorted-rows.ensures ∙ sym (ap (λ (x : Lent Row). x.items) c.self.view_is) in
+    let place = rw is at c.find-place.ensures.place in
+    let none = rw is at c.in-None.ensures in
     ap rows_of c.insert_from_slice.ensures.items ∙ add_put (aggregates_of c.args.stages.now) (row_of c.args.row) c.self.inside.table.items c.find-place.result.place c.into-in-None.result place none c.into-in-None.ensures
 
 pub invariant_of-self : goal.invariant_of-self

@@ -1,5 +1,5 @@
 use Rattle.rows.proofs.Shares.{run_within, run_counted}
-use Rattle.rows.proofs.segments.rows_within.Goals as goal
+use Rattle.rows.proofs.sorted.SortedRows.rows_within.Goals as goal
 
 pub returns : goal.returns
 returns c =
