@@ -25,7 +25,7 @@ pub struct Row {
     pub value: Value,
 }
 
-// A row in memory and in a page: the end, the stage and the key, and the value.
+// A row in memory and in a page: the end, the stage and the key, and the value. Words are seen so by `as_chunks`.
 pub type RowWords = [u64; 4];
 
 impl From<RowWords> for Row {

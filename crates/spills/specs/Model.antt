@@ -4,6 +4,7 @@ use Rattle.std.specs.Prelude.{◌≡◌, ℕ, suc, ◌/◌, ◌≤◌, List, [],
 use Rattle.book.specs.Rows.{Key, Row}
 use Rattle.book.specs.Queue.{nil, page, Seg, RowPage, Spilled, one_page}
 use Rattle.segs.specs.Model.{page_link}
+use Rattle.spills.specs.declared.pages.Pages.{Pages}
 use Rattle.spills.specs.declared.pages.Spilt.{Spilt}
 use Rattle.spills.specs.declared.pages.Spilt.TheVariants.{One, Two}
 
@@ -33,3 +34,7 @@ HasUpper u Two = 1 ≤ length u
 abbrev pub Few : (size : ℕ) → (out upper : List Row) → Spilt → Type 0
 Few z o u (One below) = length o ≤ z
 Few z o u Two = (length o ≤ z) × (length u ≤ z) × (1 ≤ length u)
+
+-- the memory for pages is as large as it was
+abbrev pub SamePages : (old new : Pages) → Type 0
+SamePages p q = (q.out.room ≡ p.out.room) × (q.upper.room ≡ p.upper.room)

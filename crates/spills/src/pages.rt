@@ -3,8 +3,7 @@ ghost use Rattle.std.specs.Prelude.{◌≡◌, ℕ, ◌+◌, ◌*◌, ◌≤◌,
 ghost use Rattle.book.specs.Queue.{RowPage, spill_by};
 ghost use Rattle.rows.specs.Model.{rows_of, aggregates_of};
 ghost use Rattle.segs.specs.Model.{page_link, seg_of};
-ghost use Rattle.spills.specs.Model.{Halves, spilt_of, Few};
-ghost use Rattle.spills.specs.Room.{SamePages};
+ghost use Rattle.spills.specs.Model.{Halves, spilt_of, Few, SamePages};
 
 use plans::stages::Stage;
 use rows::row::RowWords;

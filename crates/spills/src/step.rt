@@ -6,8 +6,7 @@ ghost use Rattle.rows.specs.Model.{rows_of, aggregates_of};
 ghost use Rattle.rows.specs.Segments.{IsRange};
 ghost use Rattle.segs.specs.Model.{LinkFits, page_link, seg_of, segs_of};
 ghost use Rattle.queue.specs.Model.{SameRoom};
-ghost use Rattle.spills.specs.Model.{Few, HasUpper};
-ghost use Rattle.spills.specs.Room.{SamePages};
+ghost use Rattle.spills.specs.Model.{Few, HasUpper, SamePages};
 ghost use Rattle.spills.specs.Step.{Links, Spills};
 
 use crate::pages::{Pages, Shown, Spilt, join_page};
