@@ -32,7 +32,7 @@ pub type SegmentWords = [u64; 6];
 
 pub type Segments<'a> = Table<'a, SegmentWords>;
 
-// A page or none as a word: 0 for none, and one more than a page's number.
+// A page or none as a word: 0 for none, and one more than a page's number. No `From`, since `Option` is not this crate's.
 pub fn link_to_word(link: Option<PageNumber>) -> u64
     requires { LinkFits link }
     ensures { result ≡ link_word (page_link link) }
@@ -66,6 +66,7 @@ impl From<SegmentWords> for Segment {
 }
 
 impl Segment {
+    // No `From`, which would take any value: the words of a page's number need room for one more.
     pub fn to_words(self) -> SegmentWords
         requires index { LinkFits self.index }
         requires head { LinkFits self.head }
