@@ -83,7 +83,8 @@ impl Stage {
     }
 
     // The end of the window that an event of this time is in: the next multiple of the size above it.
-    // None where it is beyond 64 bits; such a window never ends.
+    // None where it is beyond 64 bits; such a window never ends. That the size is not 0 is asked of callers, and not kept by its
+    // type: who builds a stage may give it any size, and `valid` judges it.
     pub fn window_end(&self, t: Time) -> Option<Time>
         requires { 0 < self.now.size.0 }
         ensures { MatchOption result (2 ^ 64 ≤ end_of self.now.size.0 t.0) (λ e. e.0 ≡ end_of self.now.size.0 t.0) }

@@ -3,7 +3,8 @@
 use Rattle.std.proofs.Common.{◌≡◌, ℕ, zero, suc, ◌+◌, ◌<◌, ◌≤◌, Bool, true, false, List, [], ◌∷◌, ◌++◌, length, get_or, take, drop, set, Some, None, sym, refl, ap, ◌∙◌, subst, add-one, arith}
 use Rattle.std.specs.Bool.{then_some}
 use Rattle.std.proofs.lemmas.List.{length-map, map-set, map-append, take-map, drop-map}
-use Rattle.streams.specs.Meaning.{Sum}
+use Rattle.streams.specs.Meaning.{Sum, Count, Total, Least, Greatest}
+use Rattle.streams.specs.Laws.{together}
 use Rattle.book.specs.Rows.{Key, Row, Bef, Upto, ltk, eqk, put, join, add, Each, Sorted}
 use Rattle.rows.specs.declared.row.Row.{Row as Code}
 use Rattle.rows.specs.Model.{row_of, row_in, rows_of}
@@ -59,6 +60,14 @@ search_down {k} {lo} {hi} {i} {r} slots d s b lt le is h =
       low = b.low;
       high = none_before k (rows_of slots) i r s e (upto_from r.at k h);
     }
+
+-- values are put together as those of cells are
+pub put_is : (s : Sum) (a b : ℕ) → together s a b ≡ put s a b
+unfolding together put
+put_is Count a b = refl
+put_is Total a b = refl
+put_is Least a b = refl
+put_is Greatest a b = refl
 
 -- the two ends of an addition: a row put between, and one joined with the row of its key
 pub add_new : (how : ℕ → Sum) (r : Row) (rs : List Row) (i : ℕ) → Each (λ c. Bef c r.at) (take i rs) → Each (Upto r.at) (drop i rs)

@@ -1,6 +1,5 @@
 // A row: what the values of one window, stage and key come to so far. By value, and as the four words that it is in memory.
 ghost use Rattle.std.specs.Prelude.{◌≡◌};
-ghost use Rattle.book.specs.Rows.{put};
 ghost use Rattle.plans.specs.Model.{as_sum};
 ghost use Rattle.rows.specs.Model.{row_of, row_in, aggregates_of};
 
@@ -50,17 +49,6 @@ impl From<Row> for RowWords {
 
     fn from(row: Row) -> RowWords {
         [row.at.end.0, row.at.stage.0, row.at.key.0, row.value.0]
-    }
-}
-
-// Two values of one row put together.
-pub(crate) fn join(how: Aggregate, a: Value, b: Value) -> Value
-    ensures { result.0 ≡ put (as_sum how) a.0 b.0 }
-{
-    match how {
-        Aggregate::Count | Aggregate::Total => Value(a.0.wrapping_add(b.0)),
-        Aggregate::Least => a.min(b),
-        Aggregate::Greatest => a.max(b),
     }
 }
 

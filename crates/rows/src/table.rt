@@ -6,7 +6,7 @@ ghost use Rattle.book.specs.Rows.{Sorted, add as added, onto};
 ghost use Rattle.book.specs.Words.{write_all, write_row};
 ghost use Rattle.rows.specs.Model.{row_of, rows_of, aggregates_of};
 
-use crate::row::{Row, RowWords, aggregate_of, join};
+use crate::row::{Row, RowWords, aggregate_of};
 use crate::sorted::SortedRows;
 use plans::stages::Stage;
 use std::marker::Model;
@@ -85,7 +85,7 @@ impl<'a> Rows<'a> {
         match rows.row_at(place, row.at) {
             Some(old) => {
                 let how = aggregate_of(stages, old.at.stage);
-                let value = join(how, old.value, row.value);
+                let value = how.together(old.value, row.value);
                 self.table.set(place, Row { value, ..old }.into());
             }
             None => self.table.insert_from_slice(place, &[row.into()]),

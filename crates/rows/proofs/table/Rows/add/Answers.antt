@@ -3,7 +3,7 @@ use Rattle.tables.specs.Lent.{Lent}
 use Rattle.book.specs.Rows.{Row, Sorted, put, add}
 use Rattle.rows.specs.Model.{row_of, rows_of, aggregates_of}
 use Rattle.rows.proofs.Order.{sorted_add}
-use Rattle.rows.proofs.Places.{add_put, add_set}
+use Rattle.rows.proofs.Places.{put_is, add_put, add_set}
 use Rattle.rows.proofs.table.Rows.add.Goals as goal
 
 joined : (c : goal.After-set) → rows_of c.set.new.self.items ≡ add (aggregates_of c.args.stages.now) (row_of c.args.row) (rows_of c.self.inside.table.items)
@@ -12,8 +12,8 @@ joined c =
     let is = c.as_sorted-rows.ensures ∙ sym (ap (λ (x : Lent Row). x.items) c.self.view_is) in
     let place = rw is at c.find-place.ensures.place in
     let here = rw is at c.in-Some.ensures in
-    let e = c.join-value.ensures ∙ ap (λ z. put z old.value (row_of c.args.row).value) c.aggregate_of-how.ensures in
-    ap rows_of c.set.ensures.items ∙ add_set (aggregates_of c.args.stages.now) (row_of c.args.row) c.self.inside.table.items c.find-place.result.place c.join-value.result.0 c.in-Some.old c.into.result place here c.into.ensures e
+    let e = c.together-value.ensures ∙ put_is _ _ _ ∙ ap (λ z. put z old.value (row_of c.args.row).value) c.aggregate_of-how.ensures in
+    ap rows_of c.set.ensures.items ∙ add_set (aggregates_of c.args.stages.now) (row_of c.args.row) c.self.inside.table.items c.find-place.result.place c.together-value.result.0 c.in-Some.old c.into.result place here c.into.ensures e
 
 new : (c : goal.After-insert_from_slice) → rows_of c.insert_from_slice.new.self.items ≡ add (aggregates_of c.args.stages.now) (row_of c.args.row) (rows_of c.self.inside.table.items)
 new c =
