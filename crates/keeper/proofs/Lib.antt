@@ -1,3 +1,2 @@
-mod Failures
 mod Allowed
 mod Entries

@@ -1,10 +1,10 @@
 -- How many parts an expression leaves over of a number, from what its own parts leave.
 -- Assumes nothing.
-use Rattle.std.proofs.Common.{◌≡◌, ℕ, ◌+◌, ◌-◌, ◌<◌, ◌≤◌, true, ◌&&◌, ◌⊎◌, is_some, Some, None, Option, Box, refl, ◌∙◌, inl, inr, arith}
+use Rattle.std.proofs.Common.{◌≡◌, ℕ, ◌+◌, ◌-◌, ◌<◌, ◌≤◌, true, ◌&&◌, ◌⊎◌, Some, None, Option, Box, refl, ◌∙◌, inl, inr, arith}
 use Rattle.std.proofs.lemmas.Bool.Decides.{nat_tests}
 use Rattle.std.specs.declared.alloc.Global.{Global}
 use Rattle.streams.specs.Meaning as spec
-use Rattle.streams.specs.Calls.{parts, expr_ok, fine}
+use Rattle.streams.specs.Calls.{parts, expr_ok}
 use Rattle.plans.specs.declared.exprs.Expr.{Expr, Plus, Minus, Times, Quotient, Rest, Less, Same, Not}
 use Rattle.plans.specs.declared.exprs.Expr.TheVariants.{Num, Time, Key, Value}
 use Rattle.plans.specs.Model.{expr_of}
@@ -70,8 +70,3 @@ module _ (e : Expr) (a b : Box Expr Global) (is : Pair e a b) {most left : ℕ} 
   pub spare_both : (mid : ℕ) → (mid + parts (expr_of a.value) ≡ left) × (expr_ok (expr_of a.value) ≡ true) → (r : Option ℕ) → Spare (expr_of b.value) mid r → Spare (expr_of e) most r
   spare_both mid m None s = omega (arith, (two e a b is).0)
   spare_both mid m (Some k) s = (omega (arith, (two e a b is).0), (two e a b is).1 ∙ rw (m.1, s.1))
-
--- a number of parts that suffices
-pub fine_spare : (e : spec.Expr) (r : Option ℕ) → Spare e 64 r → is_some r ≡ fine e
-fine_spare e None s = grind (arith, nat_tests)
-fine_spare e (Some k) s = rw s.1 (grind (arith, nat_tests))

@@ -11,7 +11,7 @@ use Rattle.streams.specs.Calls.{every, stage_ok}
 use Rattle.streams.specs.Laws.{step}
 use Rattle.streams.proofs.Sorted.{sorted}
 use Rattle.streams.proofs.Logs.{cells_mid, ended_into}
-use Rattle.streams.proofs.Opens.{ended_under, sorted_ended}
+use Rattle.streams.proofs.Opens.{ended_under}
 use Rattle.plans.specs.declared.entries.Event.{Event}
 use Rattle.plans.specs.declared.stages.Stage.{Stage}
 use Rattle.plans.specs.Model.{as_event, stage_of}
@@ -37,9 +37,6 @@ ended_more st m e cs s = go (eqb (word st.keep' e) 0) (leb n m) refl
     go false false t = ended_into m st.sum n k v cs (leb-false n m t)
 
 module _ (st : spec.Stage) (m : ℕ) (es : List Event) (i : ℕ) where
-  pub cells_sorted : (cs : List spec.Cell) → cs ≡ ended m (cells st (map as_event (take i es))) → Sorted cs
-  cells_sorted cs is = rw is (sorted_ended m (cells st (map as_event (take i es))) (sorted st (map as_event (take i es))))
-
   pub cells_more : (d : Event) (cs ds : List spec.Cell) → i < length es → cs ≡ ended m (cells st (map as_event (take i es))) → ds ≡ absorbed st m (as_event (get_or es i d)) cs → ds ≡ ended m (cells st (map as_event (take (i + 1) es)))
   cells_more d cs ds lt is e =
       rw (e, is, map_more as_event es i d lt, cells_mid st (map as_event (take i es)) [] (as_event (get_or es i d)), append-nil (map as_event (take i es)))

@@ -1,6 +1,6 @@
 use Rattle.streams.specs.Meaning.{cells, ended}
 use Rattle.plans.specs.Model.{stage_of}
-use Rattle.windows.proofs.Stage.{cells_more, all_through}
+use Rattle.windows.proofs.Stage.{cells_more}
 use Rattle.windows.proofs.stages.through.Goals as goal
 
 pub loop-event-preserved : goal.loop-event-preserved
@@ -9,4 +9,3 @@ loop-event-preserved c = cells_more (stage_of c.args.stage.now) c.args.mark.0 c.
 pub loop-event-init : goal.loop-event-init
 unfolding cells ended
 loop-event-init c = rw c.new-cells.ensures.empty
-
