@@ -25,6 +25,7 @@ impl Formula {
     ghost use Rattle.formulas.specs.Says.{Makes};
 
     // Two formulas, joined by the operator at `sign`.
+    #[tactic(auto, using(grammar::proofs::Readers::joined_parts, std::proofs::lemmas::Bool::Decides::nat_tests), unfolding(grammar::specs::Reading::join))]
     pub(crate) fn joined(
         self,
         heap: Global,
@@ -44,6 +45,7 @@ impl Formula {
     }
 
     // The not of a formula, by the `!` at `sign`.
+    #[tactic(auto, using(std::proofs::lemmas::Bool::Decides::nat_tests), unfolding(grammar::specs::Reading::negate, streams::specs::Calls::parts))]
     pub(crate) fn negated(self, heap: Global, sign: &[u8]) -> Result<Formula, Stop>
         ensures { Makes (negate sign.now (expr_of self.expr)) result }
     {

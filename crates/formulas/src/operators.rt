@@ -6,6 +6,7 @@ use grammar::operators::{Level, Operator};
 
 // The operator that stands here between the operands of a chain of that level, or, for None, between the sides of a
 // comparison; and what is behind it.
+#[tactic(auto, using(crate::proofs::Signs::between_none, crate::proofs::Signs::between_first))]
 pub(crate) fn operator(b: &[u8], level: Option<Level>) -> Option<(Operator, &[u8])>
     ensures { MatchOption result (between level b.now ≡ None) (λ x. (between level b.now ≡ Some x.0) × (x.1.now ≡ drop 1 b.now)) }
 {

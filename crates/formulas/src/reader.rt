@@ -17,6 +17,7 @@ use tokens::{digits, is_digit, skip, split_word, strip_sign};
 
 // The expression here, in which brackets stand at most `deep` deep in each other.
 #[cycle(bracket_chain_expression_factor_operand)]
+#[tactic(auto, using(crate::proofs::Chains::expressions), unfolding(grammar::specs::Reading::after, grammar::specs::Reading::single))]
 pub fn expression(heap: Global, b: &[u8], deep: u8) -> Result<(Formula, &[u8]), Stop>
     ensures { Says formula_of (expression_of deep b.now) result }
 {
@@ -36,6 +37,7 @@ pub fn expression(heap: Global, b: &[u8], deep: u8) -> Result<(Formula, &[u8]), 
 
 // Operands with operators of one level between them, from left to right.
 #[cycle(bracket_chain_expression_factor_operand)]
+#[tactic(auto, using(crate::proofs::Chains::chain_stop))]
 fn chain(heap: Global, b: &[u8], deep: u8, level: Level) -> Result<(Formula, &[u8]), Stop>
     ensures { Says formula_of (chained_of level (bracket_of deep) b.now) result }
 {
@@ -53,6 +55,7 @@ fn chain(heap: Global, b: &[u8], deep: u8, level: Level) -> Result<(Formula, &[u
 
 // The operands of a sum are products, those of a product are factors: each `!` before one is a part of it.
 #[cycle(bracket_chain_expression_factor_operand)]
+#[tactic(auto, unfolding(grammar::specs::Reading::operand, grammar::specs::Reading::chained, grammar::specs::Reading::chain))]
 fn operand(heap: Global, b: &[u8], deep: u8, level: Level) -> Result<(Formula, &[u8]), Stop>
     ensures { Says formula_of (operand_of level (bracket_of deep) b.now) result }
 {
@@ -64,6 +67,7 @@ fn operand(heap: Global, b: &[u8], deep: u8, level: Level) -> Result<(Formula, &
 
 // A factor, before which `nots` more `!` may stand.
 #[cycle(bracket_chain_expression_factor_operand)]
+#[tactic(auto, using(tokens::proofs::Hands::after_stop, crate::proofs::Chains::factors), unfolding(grammar::specs::Reading::after))]
 fn factor(heap: Global, b: &[u8], deep: u8, nots: u8) -> Result<(Formula, &[u8]), Stop>
     ensures { Says formula_of (factor_of (bracket_of deep) nots b.now) result }
 {
@@ -86,6 +90,7 @@ fn factor(heap: Global, b: &[u8], deep: u8, nots: u8) -> Result<(Formula, &[u8])
 
 // What stands inside of a bracket, and the closing one.
 #[cycle(bracket_chain_expression_factor_operand)]
+#[tactic(auto, using(tokens::proofs::Hands::after_stop), unfolding(grammar::specs::Reading::after, grammar::specs::Reading::closed))]
 fn bracket(heap: Global, b: &[u8], deep: u8) -> Result<(Formula, &[u8]), Stop>
     ensures { Says formula_of (after (expression_of deep b.now) closed) result }
 {
@@ -98,6 +103,7 @@ fn bracket(heap: Global, b: &[u8], deep: u8) -> Result<(Formula, &[u8]), Stop>
 }
 
 // A number, or one of the words that stand for something of an event.
+#[tactic(auto, using(crate::proofs::Signs::leaf_word, crate::proofs::Signs::one_part), unfolding(grammar::specs::Reading::leaf, grammar::specs::Reading::after, streams::specs::Calls::parts))]
 fn leaf(b: &[u8]) -> Result<(Formula, &[u8]), Unexpected>
     ensures { Reads formula_of (leaf_of b.now) result }
 {

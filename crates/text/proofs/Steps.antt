@@ -12,7 +12,7 @@ use Rattle.streams.specs.Meaning.{Stage, Plan}
 use Rattle.streams.specs.Calls.{plan_ok}
 use Rattle.grammar.specs.Printing.{printed}
 use Rattle.grammar.specs.declared.refusals.Why.{Why}
-use Rattle.grammar.specs.declared.refusals.Why.TheVariants.{Aggregate, Semicolon, Stages, Lateness, Late, Long}
+use Rattle.grammar.specs.declared.refusals.Why.TheVariants.{Aggregate, Semicolon, Stages, Lateness, Long}
 use Rattle.grammar.specs.Reading.{Got, got, bad, after, or_else, skip, next, is, is_the_word, is_end, aggregate, stage, stages, limited, plan, reading}
 use Rattle.grammar.proofs.Wholes.{print_reads}
 use Rattle.tokens.proofs.Words.{word_case}
@@ -99,10 +99,6 @@ unfolding reading
 too_long bs h = rw (lt-ltb 65536 (length bs) h)
 
 module _ (bs s : List ℕ) (short : length bs ≤ 65536) (e : s ≡ skip bs) where
-  pub no_late : is_the_word (codes "late") s ≡ false → reading bs ≡ bad Late s
-  unfolding reading plan
-  no_late h = rw (le-ltb 65536 (length bs) short, ← e, h)
-
   pub late_is : (n : List ℕ) → n ≡ drop 4 s → is_the_word (codes "late") s ≡ true → reading bs ≡ after (limited Lateness 0 n) (λ late rest. after (stages 8 [] rest) (λ sts end. got (record { late = late; stages = sts }) end))
   unfolding reading plan
   late_is n f h = rw (le-ltb 65536 (length bs) short, ← e, h, ← f)

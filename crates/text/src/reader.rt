@@ -30,6 +30,7 @@ pub fn read(heap: Global, text: &[u8]) -> Result<Plan, Fault>
     }
 }
 
+#[tactic(auto, unfolding(grammar::specs::Reading::reading, grammar::specs::Reading::plan, grammar::specs::Reading::after))]
 fn plan(heap: Global, text: &[u8]) -> Result<Plan, Stop>
     ensures { SaysWhole plan_of (reading text.now) result }
 {

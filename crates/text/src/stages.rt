@@ -19,6 +19,7 @@ use tokens::{limited, skip, split_word, strip_sign, strip_word};
 const DEEP: u8 = 64;
 
 // The expression behind `word`, or what stands for it where the word is left out.
+#[tactic(auto, unfolding(grammar::specs::Reading::part))]
 fn part<'a>(
     heap: Global,
     b: &'a [u8],
@@ -34,6 +35,7 @@ fn part<'a>(
     Ok((formula.expr, rest))
 }
 
+#[tactic(auto, unfolding(grammar::specs::Reading::window))]
 fn window(b: &[u8]) -> Result<(u64, &[u8]), Unexpected>
     ensures { Reads (λ n. n) (window_of b.now) result }
 {
@@ -44,6 +46,7 @@ fn window(b: &[u8]) -> Result<(u64, &[u8]), Unexpected>
     }
 }
 
+#[tactic(auto, using(crate::proofs::Steps::aggregate_word))]
 fn aggregate(b: &[u8]) -> Result<(Aggregate, &[u8]), Unexpected>
     ensures { Reads as_sum (aggregate_of b.now) result }
 {
@@ -68,6 +71,7 @@ fn named(word: &[u8]) -> Option<Aggregate>
 }
 
 // The stage behind its semicolon.
+#[tactic(auto, unfolding(grammar::specs::Reading::stage, grammar::specs::Reading::after))]
 fn stage(heap: Global, b: &[u8]) -> Result<(Stage, &[u8]), Stop>
     ensures { Says stage_of (stage_read b.now) result }
 {

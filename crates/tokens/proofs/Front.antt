@@ -1,14 +1,12 @@
 -- What the readings say of the first byte of a text. Assumes nothing.
-use Rattle.std.proofs.Common.{◌≡◌, ◌&&◌, MatchOption, eqb, ℕ, ◌+◌, ◌-◌, ◌*◌, ◌<◌, ◌≤◌, Bool, true, false, leb, List, [], ◌∷◌, length, get_or, drop, refl, sym, ap, ◌∙◌, arith}
+use Rattle.std.proofs.Common.{◌≡◌, ◌&&◌, ℕ, ◌+◌, ◌-◌, ◌*◌, ◌<◌, ◌≤◌, true, false, leb, List, [], ◌∷◌, length, get_or, drop, refl, sym, ap, ◌∙◌, arith}
 use Rattle.std.proofs.lemmas.Bool.{lt-ltb, le-ltb, le-leb}
 use Rattle.std.proofs.lemmas.Bool.Decides.{nat_tests}
 use Rattle.std.specs.Ordering.{is_le, nat_cmp}
-use Rattle.std.specs.Bool.{then_some}
-use Rattle.std.specs.Borrow.{Bor}
 use Rattle.std.specs.Char.{is_ascii_digit}
 use Rattle.streams.specs.Meaning.{top}
 use Rattle.grammar.specs.declared.refusals.Why.TheVariants.{Large, Joined}
-use Rattle.grammar.specs.Reading.{got, bad, letter, skip, blank, is, starts_digit, starts_letter, digits}
+use Rattle.grammar.specs.Reading.{got, bad, letter, skip, blank, starts_digit, starts_letter, digits}
 
 -- where there is no first byte
 module _ (bs : List ℕ) (none : length bs < 1) where
@@ -70,20 +68,6 @@ pub digits_done : (start : List ℕ) (n : ℕ) (bs : List ℕ) → starts_digit 
 unfolding digits starts_digit starts_letter
 digits_done start n [] d l = refl
 digits_done start n (c ∷ cs) d l = rw (d, l)
-
--- a sign that is looked for, by what was split off
-pub sign_none : (c : ℕ) (bs : List ℕ) → length bs ≡ 0 → is c bs ≡ false
-unfolding is
-sign_none c [] h = refl
-sign_none c (x ∷ xs) h = absurd (omega arith)
-
-pub sign_first : (c x : ℕ) (bs : List ℕ) (rest : Bor (List ℕ)) → bs ≡ x ∷ rest.now → MatchOption (then_some (eqb x c) rest) (is c bs ≡ false) (λ r. (is c bs ≡ true) × (r.now ≡ drop 1 bs))
-unfolding is
-sign_first c x bs rest e = rw e (go (eqb x c))
-  where
-    go : (t : Bool) → MatchOption (then_some t rest) (t ≡ false) (λ r. (t ≡ true) × (r.now ≡ rest.now))
-    go true = (refl, refl)
-    go false = refl
 
 -- the test of a range, by numbers
 cmp_le : (a b : ℕ) → is_le (nat_cmp a b) ≡ leb a b

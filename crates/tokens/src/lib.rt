@@ -34,6 +34,7 @@ fn is_blank(c: u8) -> bool
 }
 
 // What is behind the byte `c`, if it stands here.
+#[tactic(auto, unfolding(grammar::specs::Reading::is))]
 pub fn strip_sign(b: &[u8], c: u8) -> Option<&[u8]>
     ensures { MatchOption result (is_here c b.now ≡ false) (λ r. (is_here c b.now ≡ true) × (r.now ≡ drop 1 b.now)) }
 {
@@ -55,6 +56,7 @@ fn is_letter(b: &[u8]) -> bool
 }
 
 // What is behind `word`, if it stands here, with neither a letter nor a digit right behind it.
+#[tactic(auto, using(crate::proofs::Words::word_prefix))]
 pub fn strip_word<'a>(b: &'a [u8], word: &[u8]) -> Option<&'a [u8]>
     ensures { MatchOption result (is_the_word word.now b.now ≡ false) (λ r. (is_the_word word.now b.now ≡ true) × (r.now ≡ drop (length word.now) b.now)) }
 {
@@ -109,6 +111,7 @@ pub fn digits(b: &[u8]) -> Result<(u64, &[u8]), Unexpected>
 }
 
 // The number behind white space.
+#[tactic(auto, unfolding(grammar::specs::Reading::number))]
 pub fn number(b: &[u8]) -> Result<(u64, &[u8]), Unexpected>
     ensures { Reads (λ n. n) (number_of b.now) result }
 {
@@ -121,6 +124,7 @@ pub fn number(b: &[u8]) -> Result<(u64, &[u8]), Unexpected>
 }
 
 // The number behind white space, from `low` to 2^40; `why` says what any other is refused for.
+#[tactic(auto, using(crate::proofs::Front::in_range), unfolding(grammar::specs::Reading::limited, grammar::specs::Reading::after))]
 pub fn limited(b: &[u8], low: u64, why: Why) -> Result<(u64, &[u8]), Unexpected>
     ensures { Reads (λ n. n) (limited_of why low b.now) result }
 {

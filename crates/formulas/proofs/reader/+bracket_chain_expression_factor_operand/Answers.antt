@@ -1,27 +1,11 @@
-use Rattle.std.proofs.Common.{◌≡◌, ◌+◌, ◌-◌, sym, refl, ap, ◌∙◌, arith}
+use Rattle.std.proofs.Common.{◌≡◌, ◌+◌, ◌-◌, sym, ◌∙◌, arith}
 use Rattle.std.proofs.lemmas.Result.{err_from_is_err_and}
 use Rattle.plans.specs.Model.{expr_of}
-use Rattle.grammar.specs.Reading.{operand, bracket, closed}
-use Rattle.grammar.proofs.Readers.{parts_some, after_got, more_none, chained_got, operand_sum, operand_product, factor_many, factor_bracket, factor_leaf, bracket_deep, closed_ok, closed_bad, single_ok, single_bad, expression_one, expression_two}
+use Rattle.grammar.specs.Reading.{bracket}
+use Rattle.grammar.proofs.Readers.{parts_some, after_got, chained_got, single_ok, single_bad, expression_two}
 use Rattle.tokens.proofs.Hands.{after_stop, stop_as}
-use Rattle.formulas.proofs.Chains.{join_parts, turn, factor_fewer, factor_inside, chain_stop, expression_stop, says_as}
+use Rattle.formulas.proofs.Chains.{chain_ends, join_parts, turn, factor_fewer}
 use Rattle.formulas.proofs.reader.+bracket_chain_expression_factor_operand.Goals as goal
-
-pub bracket-returns-in_err-inner : goal.bracket-returns-in_err-inner
-bracket-returns-in_err-inner t c =
-    let p = err_from_is_err_and c.from_residual.result c.from_residual.ensures.1 in
-    rw (p.1, p.2) (after_stop _ _ c.in_err-inner.field-0.0 c.in_err-inner.ensures)
-
-pub bracket-returns-in-Some : goal.bracket-returns-in-Some
-bracket-returns-in-Some t c = after_got _ closed c.in_ok-inner.ensures ∙ closed_ok _ _ c.skip-close.result.now c.in-Some.behind.now c.skip-close.ensures (sym c.in-Some.ensures.1) c.in-Some.ensures.0
-
-pub bracket-returns-in-None : goal.bracket-returns-in-None
-bracket-returns-in-None t c = rw c.into.ensures (after_got _ closed c.in_ok-inner.ensures ∙ closed_bad _ _ c.skip-close.result.now c.skip-close.result.now c.skip-close.ensures c.in-None.ensures)
-
-pub chain-returns-in_err-left : goal.chain-returns-in_err-left
-chain-returns-in_err-left t c =
-    let p = err_from_is_err_and c.from_residual.result c.from_residual.ensures.1 in
-    rw (p.1, p.2) (chain_stop c.args.level (bracket c.args.deep) c.args.b.now c.in_err-left.field-0.0 c.in_err-left.ensures)
 
 pub chain-loop-op-init : goal.chain-loop-op-init
 chain-loop-op-init t c =
@@ -32,9 +16,7 @@ chain-loop-op-init t c =
     }
 
 pub chain-returns-in_default : goal.chain-returns-in_default
-chain-returns-in_default t c =
-    let going = c.loop-op.invariant in
-    going.is ∙ more_none c.args.level (operand c.args.level (bracket c.args.deep)) going.turns (expr_of c.loop-op.left.expr) c.loop-op.rest.now c.skip-sign.result.now c.skip-sign.ensures (omega arith) c.in_default.ensures
+chain-returns-in_default t c = chain_ends c.args.level (bracket c.args.deep) c.args.b.now (expr_of c.loop-op.left.expr) c.loop-op.rest.now c.skip-sign.result.now c.loop-op.invariant (omega arith) c.skip-sign.ensures c.in_default.ensures
 
 pub chain-returns-in_err-right : goal.chain-returns-in_err-right
 chain-returns-in_err-right t c =
@@ -70,14 +52,6 @@ chain-loop-op-preserved t c =
           ∙ after_got _ _ made;
     }
 
-pub expression-returns-in_err-left : goal.expression-returns-in_err-left
-expression-returns-in_err-left t c =
-    let p = err_from_is_err_and c.from_residual.result c.from_residual.ensures.1 in
-    rw (p.1, p.2) (expression_stop c.args.deep c.args.b.now c.in_err-left.field-0.0 c.in_err-left.ensures)
-
-pub expression-returns-in_default : goal.expression-returns-in_default
-expression-returns-in_default t c = expression_one c.args.deep c.args.b.now c.skip-sign.result.now c.skip-sign.result.now c.in_ok-left.ensures c.skip-sign.ensures c.in_default.ensures
-
 pub expression-returns-in_err-right : goal.expression-returns-in_err-right
 expression-returns-in_err-right t c =
     let p = err_from_is_err_and c.from_residual-in_err-right.result c.from_residual-in_err-right.ensures.1 in
@@ -107,9 +81,6 @@ expression-returns-in-Some-operator t c =
     ∙ after_got _ _ (c.in_ok-both.ensures c.in_ok-right.rest.now)
     ∙ single_bad _ _ c.skip-end.result.now c.skip-end.result.now c.skip-end.ensures c.in-Some-operator.ensures.0)
 
-pub factor-returns-in_default-checked_sub : goal.factor-returns-in_default-checked_sub
-factor-returns-in_default-checked_sub t c = rw c.into.ensures (factor_many (bracket c.args.deep) c.args.nots c.args.b.now c.skip-sign.result.now c.in-Some.behind.now c.skip-sign.ensures (sym c.in-Some.ensures.1) (omega (arith, c.in_default-checked_sub.ensures)) c.in-Some.ensures.0)
-
 pub factor-returns-in_err-inner : goal.factor-returns-in_err-inner
 factor-returns-in_err-inner t c =
     let p = err_from_is_err_and c.from_residual.result c.from_residual.ensures.1 in
@@ -132,32 +103,3 @@ factor-returns-in-Some t c =
     factor_fewer (bracket c.args.deep) c.args.nots c.in-Some-checked_sub.fewer c.args.b.now c.skip-sign.result.now c.in-Some.behind.now c.skip-sign.ensures (sym c.in-Some.ensures.1) fewer c.in-Some.ensures.0
     ∙ after_got _ _ c.in_ok-inner.ensures
     ∙ c.in_ok-negated.ensures c.in_ok-inner.rest.now
-
-pub factor-returns-in_default-checked_sub-2 : goal.factor-returns-in_default-checked_sub-2
-factor-returns-in_default-checked_sub-2 t c =
-    rw c.into-in_default-checked_sub-2.ensures
-    (factor_bracket (bracket c.args.deep) c.args.nots c.args.b.now c.skip-sign.result.now _ c.skip-sign.ensures refl c.in_default.ensures c.in-Some-strip_sign.ensures.0
-    ∙ bracket_deep c.args.deep c.skip-sign.result.now (omega (arith, c.in_default-checked_sub-2.ensures)))
-
-pub factor-returns-in-Some-strip_sign : goal.factor-returns-in-Some-strip_sign
-factor-returns-in-Some-strip_sign t c =
-    let deeper : c.args.deep ≡ c.in-Some-checked_sub-2.deeper + 1 = omega (arith, c.in-Some-checked_sub-2.ensures) in
-    says_as c.bracket.result
-    (factor_inside c.args.nots c.args.deep c.in-Some-checked_sub-2.deeper c.args.b.now c.skip-sign.result.now c.in-Some-strip_sign.inside.now c.skip-sign.ensures (sym c.in-Some-strip_sign.ensures.1) deeper c.in_default.ensures c.in-Some-strip_sign.ensures.0)
-    c.bracket.ensures
-
-pub factor-returns-in_err-leaf : goal.factor-returns-in_err-leaf
-factor-returns-in_err-leaf t c =
-    let p = err_from_is_err_and c.from_residual-in_err-leaf.result c.from_residual-in_err-leaf.ensures.1 in
-    rw (p.1, p.2)
-    (factor_leaf (bracket c.args.deep) c.args.nots c.args.b.now c.skip-sign.result.now _ c.skip-sign.ensures refl c.in_default.ensures c.in_default-strip_sign.ensures ∙ c.in_err-leaf.ensures)
-
-pub factor-returns : goal.factor-returns
-factor-returns t c =
-    factor_leaf (bracket c.args.deep) c.args.nots c.args.b.now c.skip-sign.result.now _ c.skip-sign.ensures refl c.in_default.ensures c.in_default-strip_sign.ensures ∙ c.in_ok-leaf.ensures
-
-pub operand-returns-in-Sum : goal.operand-returns-in-Sum
-operand-returns-in-Sum t c = says_as c.chain.result (ap (λ l. operand l (bracket c.args.deep) c.args.b.now) c.in-Sum.is ∙ operand_sum (bracket c.args.deep) c.args.b.now) c.chain.ensures
-
-pub operand-returns-in-Product : goal.operand-returns-in-Product
-operand-returns-in-Product t c = says_as c.factor.result (ap (λ l. operand l (bracket c.args.deep) c.args.b.now) c.in-Product.is ∙ operand_product (bracket c.args.deep) c.args.b.now) c.factor.ensures
