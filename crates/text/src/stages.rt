@@ -1,6 +1,5 @@
 // Reading the stages of a plan.
-ghost use Rattle.std.specs.Prelude.{◌≡◌, [], map, vec_items, option_map};
-ghost use Rattle.streams.specs.Meaning as spec;
+ghost use Rattle.std.specs.Prelude.{◌≡◌, [], option_map};
 ghost use Rattle.grammar.specs.Reading.{part as part_of, window as window_of, aggregate as aggregate_of, stage as stage_read, stages as stages_of};
 ghost use Rattle.plans.specs.Model.{as_sum, expr_of, stage_of};
 ghost use Rattle.tokens.specs.Says.{Reads, Says};

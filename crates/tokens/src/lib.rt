@@ -2,10 +2,10 @@
 // gives what it read with the bytes behind it. Assumes nothing.
 #![tactic(auto, using(crate::proofs::Front::fronts))]
 
-ghost use Rattle.std.specs.Prelude.{◌≡◌, ◌+◌, ◌-◌, ◌*◌, ◌^◌, ◌≤◌, false, true, length, take, drop, MatchOption};
+ghost use Rattle.std.specs.Prelude.{◌≡◌, ◌+◌, ◌-◌, ◌*◌, ◌^◌, ◌≤◌, false, true, length, drop, MatchOption};
 ghost use Rattle.std.specs.List.{prefix_len, take_while};
 ghost use Rattle.std.specs.Char.{is_ascii_alphanumeric};
-ghost use Rattle.grammar.specs.Reading.{blank, letter as letter_byte, is as is_here, starts_digit, starts_letter, is_the_word, skip as skip_of, digits as digits_of, number as number_of, limited as limited_of};
+ghost use Rattle.grammar.specs.Reading.{blank, is as is_here, starts_digit, starts_letter, is_the_word, skip as skip_of, digits as digits_of, number as number_of, limited as limited_of};
 ghost use Rattle.tokens.specs.Says.{Reads};
 
 use crate::faults::Unexpected;
