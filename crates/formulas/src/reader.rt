@@ -73,16 +73,12 @@ fn factor(heap: Global, b: &[u8], deep: u8, nots: u8) -> Result<(Formula, &[u8])
 {
     let sign = skip(b);
     if let Some(behind) = strip_sign(sign, b'!') {
-        let Some(fewer) = nots.checked_sub(1) else {
-            return Err(Unexpected(Why::Parts, sign).into());
-        };
+        let fewer = nots.checked_sub(1).ok_or(Unexpected(Why::Parts, sign))?;
         let (inner, rest) = factor(heap, behind, deep, fewer)?;
         return Ok((inner.negated(heap, sign)?, rest));
     }
     if let Some(inside) = strip_sign(sign, b'(') {
-        let Some(deeper) = deep.checked_sub(1) else {
-            return Err(Unexpected(Why::Deep, sign).into());
-        };
+        let deeper = deep.checked_sub(1).ok_or(Unexpected(Why::Deep, sign))?;
         return bracket(heap, inside, deeper);
     }
     Ok(leaf(sign)?)

@@ -38,9 +38,7 @@ fn plan(heap: Global, text: &[u8]) -> Result<Plan, Stop>
         return Err(Unexpected(Why::Long, &text[LONGEST..]).into());
     }
     let place = skip(text);
-    let Some(rest) = strip_word(place, b"late") else {
-        return Err(Unexpected(Why::Late, place).into());
-    };
+    let rest = strip_word(place, b"late").ok_or(Unexpected(Why::Late, place))?;
     let (late, rest) = limited(rest, 0, Why::Lateness)?;
     let stages = stages(heap, rest)?;
     let late = Span(late);

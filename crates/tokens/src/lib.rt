@@ -2,7 +2,7 @@
 // gives what it read with the bytes behind it. Assumes nothing.
 #![tactic(auto, using(crate::proofs::Front::fronts))]
 
-ghost use Rattle.std.specs.Prelude.{◌≡◌, ◌+◌, ◌-◌, ◌*◌, ◌^◌, ◌≤◌, false, true, length, drop, MatchOption};
+ghost use Rattle.std.specs.Prelude.{◌≡◌, ◌+◌, ◌-◌, ◌*◌, ◌^◌, ◌<◌, ◌≤◌, false, true, length, drop, MatchOption};
 ghost use Rattle.std.specs.List.{prefix_len, take_while};
 ghost use Rattle.std.specs.Char.{is_ascii_alphanumeric};
 ghost use Rattle.grammar.specs.Reading.{blank, is as is_here, starts_digit, starts_letter, is_the_word, skip as skip_of, digits as digits_of, number as number_of, limited as limited_of};
@@ -86,7 +86,7 @@ fn word_len(b: &[u8]) -> usize
 // The number that a digit makes of those before it, below 2^64.
 fn with_digit(n: u64, digit: u8) -> Option<u64>
     requires { 48 ≤ digit }
-    ensures { MatchOption result (2 ^ 64 ≤ n * 10 + (digit - 48)) (λ m. m ≡ n * 10 + (digit - 48)) }
+    ensures { MatchOption result (2 ^ 64 ≤ n * 10 + (digit - 48)) (λ m. (m ≡ n * 10 + (digit - 48)) × (m < 2 ^ 64)) }
 {
     n.checked_mul(10)?.checked_add(u64::from(digit - b'0'))
 }
@@ -98,10 +98,7 @@ pub fn digits(b: &[u8]) -> Result<(u64, &[u8]), Unexpected>
     let mut n: u64 = 0;
     let mut rest = b;
     while let [digit @ b'0'..=b'9', after @ ..] = rest {
-        let Some(more) = with_digit(n, *digit) else {
-            return Err(Unexpected(Why::Large, b));
-        };
-        n = more;
+        n = with_digit(n, *digit).ok_or(Unexpected(Why::Large, b))?;
         rest = after;
     }
     if is_letter(rest) {

@@ -1,4 +1,5 @@
-use Rattle.std.proofs.Common.{◌≡◌, false, sym, ◌∙◌, arith}
+use Rattle.std.proofs.Common.{◌≡◌, ◌+◌, ◌-◌, ◌*◌, ◌<◌, false, get_or, sym, ◌∙◌, arith}
+use Rattle.std.proofs.lemmas.Grind.{common_steps}
 use Rattle.std.proofs.lemmas.List.{take_rest}
 use Rattle.grammar.specs.Reading.{starts_digit, digits}
 use Rattle.tokens.proofs.Front.{fronts, digits_goes, digits_joined, digits_done}
@@ -8,9 +9,10 @@ use Rattle.tokens.proofs.digits.Goals.{in_default, in_default-2, in_default-3}
 pub loop-rest-preserved : goal.loop-rest-preserved
 loop-rest-preserved c =
     let rest = c.loop-rest.rest.now in
+    let more : (c.in_ok-n.n ≡ c.loop-rest.n * 10 + (get_or rest 0 0 - 48)) × (c.in_ok-n.n < 18446744073709551616) = grind (arith, common_steps) in
     c.loop-rest.invariant
-    ∙ digits_goes rest c.in-48-to-57.len_at_least c.args.b.now c.loop-rest.n (omega arith) (omega arith) (omega arith)
-    ∙ (λ i. digits c.args.b.now (sym c.in-Some.ensures i) (sym (take_rest rest 1) i))
+    ∙ digits_goes rest c.in-48-to-57.len_at_least c.args.b.now c.loop-rest.n (omega arith) (omega arith) (omega (arith, more.0, more.1))
+    ∙ (λ i. digits c.args.b.now (sym more.0 i) (sym (take_rest rest 1) i))
 
 pub returns-then-is_letter : goal.returns-then-is_letter
 returns-then-is_letter c =
