@@ -1,5 +1,6 @@
 // The readers of expressions. Each takes what is left of a text, and gives what it read with what is behind it, or the
-// reason of a refusal with what is left there.
+// reason of a refusal with what is left there. Heap, bytes and depth are no struct: the bytes are others at each call, so it would be
+// made anew each time.
 ghost use Rattle.grammar.specs.Reading.{after, closed, expression as expression_of, chained as chained_of, operand as operand_of, factor as factor_of, bracket as bracket_of, leaf as leaf_of};
 ghost use Rattle.std.specs.Prelude.{◌≡◌, option_map};
 ghost use Rattle.plans.specs.Model.{expr_of};
@@ -53,7 +54,8 @@ fn chain(heap: Global, b: &[u8], deep: u8, level: Level) -> Result<(Formula, &[u
     }
 }
 
-// The operands of a sum are products, those of a product are factors: each `!` before one is a part of it.
+// The operands of a sum are products, those of a product are factors: each `!` before one is a part of it. A match and no closure:
+// what falls from call to call shows that the readers end.
 #[cycle(bracket_chain_expression_factor_operand)]
 #[tactic(auto, unfolding(grammar::specs::Reading::operand, grammar::specs::Reading::chained, grammar::specs::Reading::chain))]
 fn operand(heap: Global, b: &[u8], deep: u8, level: Level) -> Result<(Formula, &[u8]), Stop>

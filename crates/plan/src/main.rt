@@ -11,7 +11,7 @@ use std::io::{Read, Write};
 use std::process::ExitCode;
 use std::{env, fs, io};
 use stops::Stop;
-use text::places::locate;
+use text::places::{Position, locate};
 use text::reader::read;
 use tokens::faults::Fault;
 
@@ -24,7 +24,8 @@ fn main(rt: HostRuntime) -> ExitCode {
     ExitCode::FAILURE
 }
 
-// What was not said yet of why the program ends.
+// What was not said yet of why the program ends. The program `rehearse` has the same under its name: what is printed has no contract
+// that could pin it, so it is no library's function.
 fn tell(rt: &HostRuntime, stop: &Stop) -> io::Result<()> {
     match stop.unsaid() {
         Some(why) => eprintln!(rt; "plan: {why}"),
@@ -64,15 +65,15 @@ fn input(rt: &HostRuntime) -> Result<Vec<u8>, Stop> {
 // Line, column and reason, then the line and a caret under the place.
 fn complain(rt: &HostRuntime, bytes: &[u8], refusal: Refusal) -> Result<(), Stop> {
     let at = refusal.at.min(bytes.len());
-    let place = locate(bytes, at);
-    let line = place.line;
-    let column = place.column;
+    let Position { line, column } = locate(bytes, at);
     let why = refusal.why;
     eprintln!(rt; "line {line}, column {column}: {why}")?;
-    let begin = begin_of_line(bytes, at);
-    let mut shown = bytes[begin..end_of_line(bytes, at)].to_vec(rt.alloc())?;
+    let (before, behind) = bytes.split_at(at);
+    let before = &before[last_line(before)..];
+    let mut shown = before.to_vec(rt.alloc())?;
+    shown.extend_from_slice(&behind[..first_line(behind)])?;
     shown.push(b'\n')?;
-    for c in &bytes[begin..at] {
+    for c in before {
         shown.push(if *c == b'\t' { b'\t' } else { b' ' })?;
     }
     shown.extend_from_slice(b"^\n")?;
@@ -80,25 +81,22 @@ fn complain(rt: &HostRuntime, bytes: &[u8], refusal: Refusal) -> Result<(), Stop
     Ok(())
 }
 
-// Where the line of the place `at` begins.
-fn begin_of_line(bytes: &[u8], at: usize) -> usize
-    requires { at ≤ length bytes.now }
-    ensures before { result ≤ at }
-    ensures line { NoLineEnd bytes.now result at }
+// Where the last line of some bytes begins.
+fn last_line(bytes: &[u8]) -> usize
+    ensures within { result ≤ length bytes.now }
+    ensures line { NoLineEnd bytes.now result (length bytes.now) }
     ensures first { 0 < result → slice_index bytes.now (result - 1) ≡ 10 }
 {
-    let line_end = bytes[..at].iter().rposition(|c| *c == b'\n');
+    let line_end = bytes.iter().rposition(|c| *c == b'\n');
     line_end.map_or(0, |i| i + 1)
 }
 
-// Where the line of the place `at` ends, before its line end.
-fn end_of_line(bytes: &[u8], at: usize) -> usize
-    requires { at ≤ length bytes.now }
-    ensures behind { at ≤ result }
+// Where the first line of some bytes ends, before its line end.
+fn first_line(bytes: &[u8]) -> usize
     ensures within { result ≤ length bytes.now }
-    ensures line { NoLineEnd bytes.now at result }
+    ensures line { NoLineEnd bytes.now 0 result }
     ensures last { result < length bytes.now → slice_index bytes.now result ≡ 10 }
 {
-    let line_end = bytes[at..].iter().position(|c| *c == b'\n');
-    line_end.map_or(bytes.len(), |i| at + i)
+    let line_end = bytes.iter().position(|c| *c == b'\n');
+    line_end.unwrap_or(bytes.len())
 }

@@ -28,7 +28,7 @@ pub const MOST_PARTS: u8 = 64;
 
 impl Expr {
     // The word that it gives of `event`: sums, differences and products wrap; quotient and rest by 0 are 0;
-    // less, same and not give 1 or 0. The number that falls is how many parts are left.
+    // less, same and not give 1 or 0.
     pub fn eval(&self, event: Event) -> u64
         ensures { result ≡ word (expr_of self.now) (as_event event) }
     {

@@ -54,7 +54,8 @@ impl Display for Text<'_, Stage> {
     }
 }
 
-// A part of a stage by its name, with a blank behind it, unless it is left out.
+// A part of a stage by its name, with a blank behind it, unless it is left out. The flag is `left_out` of the grammar's `said`: an
+// Option in place of both would be turned back into them.
 #[derive(Clone, Copy)]
 struct Said<'a>(&'static str, &'a Expr, bool);
 
@@ -82,7 +83,8 @@ fn named(aggregate: Aggregate) -> &'static str
     }
 }
 
-// How close an expression binds: a comparison 1, a sum 2, a product 3, what needs no brackets anywhere 4.
+// How close an expression binds: a comparison 1, a sum 2, a product 3, what needs no brackets anywhere 4. A number as in the
+// grammar, whose `within` compares it: an enum would only be turned into it.
 #[tactic(auto, unfolding(grammar::specs::Printing::bond))]
 fn bond(e: &Expr) -> u8
     ensures { result ≡ bond_of (expr_of e.now) }

@@ -3,7 +3,9 @@
 #![tactic(auto)]
 
 use calls::kinds::Call;
+use grammar::refusals::Refusal;
 use keeper::Keeper;
+use keeper::doing::MOST_LOGS;
 use keeper::undone::Undone;
 use plans::entries::{Entry, Event};
 use plans::numbers::{LogNumber, Place};
@@ -15,13 +17,13 @@ use std::process::ExitCode;
 use std::str::from_utf8;
 use std::{env, fs, io};
 use stops::Stop;
-use text::places::locate;
+use text::places::{Position, locate};
 use text::reader::read;
 use tokens::faults::Fault;
 
 // The plan if the script names none: events of a tenth of a second counted by key, and of the counts of a second the
 // greatest.
-const PLAN: &[u8; 45] = b"late 10; in 100 count; key 0 in 1000 greatest";
+const PLAN: &[u8] = b"late 10; in 100 count; key 0 in 1000 greatest";
 
 // So many events are asked for at a time.
 const MOST: u16 = 1024;
@@ -49,7 +51,8 @@ fn main(rt: HostRuntime) -> ExitCode {
     ExitCode::FAILURE
 }
 
-// What was not said yet of why the program ends.
+// What was not said yet of why the program ends. The program `plan` has the same under its name: what is printed has no contract
+// that could pin it, so it is no library's function.
 fn tell(rt: &HostRuntime, stop: &Stop) -> io::Result<()> {
     match stop.unsaid() {
         Some(why) => eprintln!(rt; "rehearse: {why}"),
@@ -114,15 +117,12 @@ impl Play<'_> {
         if self.called {
             return self.say("a plan comes before the first call");
         }
-        match self.begin(self.rt.alloc(), text) {
-            Ok(()) => Ok(()),
-            Err(Fault::Memory) => Err(Stop::Memory),
-            Err(Fault::Refused(refusal)) => {
-                let column = refusal.at.saturating_add(from).saturating_add(1);
-                let why = refusal.why;
-                Ok(println!(self.rt; "line {}, column {column}: {why}", self.at)?)
-            }
-        }
+        let Err(fault) = self.begin(self.rt.alloc(), text) else {
+            return Ok(());
+        };
+        let Refusal { at, why } = refused(fault)?;
+        let column = at.saturating_add(from).saturating_add(1);
+        Ok(println!(self.rt; "line {}, column {column}: {why}", self.at)?)
     }
 
     // plan-file NAME
@@ -137,18 +137,15 @@ impl Play<'_> {
         if self.called {
             return self.say("a plan comes before the first call");
         }
-        match self.begin(self.rt.alloc(), text.as_slice()) {
-            Ok(()) => Ok(()),
-            Err(Fault::Memory) => Err(Stop::Memory),
-            Err(Fault::Refused(refusal)) => {
-                let place = locate(text.as_slice(), refusal.at);
-                let (row, column, why) = (place.line, place.column, refusal.why);
-                Ok(println!(self.rt;
-                    "line {}: {name}, line {row}, column {column}: {why}",
-                    self.at
-                )?)
-            }
-        }
+        let Err(fault) = self.begin(self.rt.alloc(), text.as_slice()) else {
+            return Ok(());
+        };
+        let Refusal { at, why } = refused(fault)?;
+        let Position { line: row, column } = locate(text.as_slice(), at);
+        Ok(println!(self.rt;
+            "line {}: {name}, line {row}, column {column}: {why}",
+            self.at
+        )?)
     }
 
     // Begins anew with the plan that the text is. Where it is none, nothing changes.
@@ -164,7 +161,7 @@ impl Play<'_> {
         if self.called {
             return self.say("logs are counted before the first call");
         }
-        let Ok(count @ 1..=256) = u16::try_from(count) else {
+        let Ok(count @ 1..=MOST_LOGS) = u16::try_from(count) else {
             return self.say("there are 1 to 256 logs");
         };
         let plan = read(self.rt.alloc(), self.text.as_slice()).map_err(|_| Stop::Memory)?;
@@ -179,10 +176,8 @@ impl Play<'_> {
         let Ok(log) = u8::try_from(log) else {
             return self.say("a log is 0 to 255");
         };
-        match self.keeper.put(LogNumber(log), entry) {
-            Ok(()) => Ok(()),
-            Err(undone) => self.tell_undone(undone),
-        }
+        let put = self.keeper.put(LogNumber(log), entry);
+        put.or_else(|undone| self.tell_undone(undone))
     }
 
     // out: all that came out
@@ -217,10 +212,8 @@ impl Play<'_> {
     fn drop_before(&mut self, before: u64) -> Result<(), Stop> {
         self.called = true;
         let before = Place(before);
-        match (Call::Drop { before }).check(self.logs) {
-            Ok(()) => Ok(()),
-            Err(why) => self.tell_undone(Undone::Refused(why)),
-        }
+        let checked = (Call::Drop { before }).check(self.logs);
+        checked.or_else(|why| self.tell_undone(Undone::Refused(why)))
     }
 
     // Each event on a line: its place, time, key and value.
@@ -247,5 +240,13 @@ impl Play<'_> {
             }
             Undone::BadPlan | Undone::Memory => Err(Stop::Memory),
         }
+    }
+}
+
+// What a text is refused for, if it was not memory that ran out.
+fn refused(fault: Fault) -> Result<Refusal, Stop> {
+    match fault {
+        Fault::Memory => Err(Stop::Memory),
+        Fault::Refused(refusal) => Ok(refusal),
     }
 }

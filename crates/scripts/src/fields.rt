@@ -12,10 +12,7 @@ use tokens::{number, skip};
 pub(crate) fn field(line: &[u8], which: Field) -> Result<(u64, &[u8]), Complaint>
     ensures { read_of result ≡ field_at which line.now }
 {
-    match number(line) {
-        Ok(read) => Ok(read),
-        Err(_) => Err(Complaint::NoNumber(which)),
-    }
+    number(line).map_err(|_| Complaint::NoNumber(which))
 }
 
 // Whether nothing but white space is left.

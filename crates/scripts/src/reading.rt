@@ -81,7 +81,8 @@ fn drop_before(line: &[u8]) -> Result<Command, Complaint>
     alone(rest, Command::Drop { before })
 }
 
-// plan TEXT, or plan-file NAME: the place of the text in the line, since people are told a column of it.
+// plan TEXT, or plan-file NAME: the place of the text in the line, since people are told a column of it; a file's name too, so
+// that a command borrows nothing.
 #[tactic(auto, unfolding(crate::specs::Lines::plan_at))]
 fn plan(line: &[u8], rest: &[u8]) -> Command
     requires { length rest.now ≤ length line.now }

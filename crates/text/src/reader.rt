@@ -20,6 +20,7 @@ pub fn read(heap: Global, text: &[u8]) -> Result<Plan, Fault>
     ensures valid { Valid result }
     ensures again { ReadAgain text.now result }
 {
+    // No `From`: the offset needs the whole text.
     match plan(heap, text) {
         Ok(plan) => Ok(plan),
         Err(Fault::Memory) => Err(Fault::Memory),

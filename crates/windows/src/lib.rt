@@ -1,4 +1,4 @@
-// What comes out of a plan and its logs, worked out in one place by one loop over owned vectors: the meaning as code.
+// What comes out of a plan and its logs, worked out in one place by one loop over owned vectors and maps: the meaning as code.
 // It is what the workers' results are compared with, so it is as plain as the definitions allow.
 #![tactic(auto)]
 
