@@ -10,7 +10,7 @@ use Rattle.grammar.specs.declared.operators.Operator.{Operator}
 use Rattle.grammar.specs.declared.operators.Operator.TheVariants as op
 use Rattle.grammar.specs.declared.operators.Level.{Level}
 use Rattle.grammar.specs.declared.operators.Level.TheVariants as level
-use Rattle.grammar.specs.Reading.{got, Reader, after, blank, letter, skip, is, starts_digit, starts_letter, is_the_word, digits, joined, operator, comparison, join, negate, more, chain, chained, operand, factor, leaf, compared, single, closed, bracket, expression}
+use Rattle.grammar.specs.Reading.{got, Reader, after, blank, skip, is, starts_digit, starts_letter, is_the_word, digits, joined, operator, comparison, join, negate, more, chain, chained, operand, factor, leaf, compared, single, closed, bracket, expression}
 use Rattle.grammar.specs.Printing.{bond, within, pair, shown}
 use Rattle.grammar.proofs.Places.{digits_done}
 use Rattle.grammar.proofs.Readers.{after_got, parts_some, joined_parts, more_none, more_turn, chained_got, operand_sum, operand_product, factor_not, factor_bracket, bracket_in, expression_one, expression_two}

@@ -7,7 +7,7 @@ use Rattle.grammar.specs.declared.operators.Operator.TheVariants as op
 use Rattle.grammar.specs.declared.operators.Level.{Level}
 use Rattle.grammar.specs.declared.operators.Level.TheVariants as level
 use Rattle.grammar.specs.declared.refusals.Why.{Why}
-use Rattle.grammar.specs.declared.refusals.Why.TheVariants.{Parts, Chained, Deep, Close}
+use Rattle.grammar.specs.declared.refusals.Why.TheVariants.{Parts, Chained, Deep}
 use Rattle.grammar.specs.Reading.{Got, got, bad, Reader, after, skip, next, is, joined, operator, comparison, join, negate, more, chain, chained, operand, factor, leaf, compared, single, closed, in_brackets, bracket, expression}
 
 pub after_got : {A B : Type 0} (g : Got A) (f : A → List ℕ → Got B) {a : A} {rest : List ℕ} → g ≡ got a rest → after g f ≡ f a rest
@@ -118,14 +118,6 @@ bracket_in zero s n f z = absurd (z refl)
 bracket_in (suc deep) s n f z = let less : suc deep - 1 ≡ deep = omega arith in rw (f, less)
 
 module _ (a : spec.Expr) (rest s n : List ℕ) (e : s ≡ skip rest) where
-  pub closed_ok : next s ≡ n → is 41 s ≡ true → closed a rest ≡ got a n
-  unfolding closed
-  closed_ok f h = rw (← e, h, f)
-
-  pub closed_bad : is 41 s ≡ false → closed a rest ≡ bad Close s
-  unfolding closed
-  closed_bad h = rw (← e, h)
-
   pub single_ok : comparison s ≡ None → single a rest ≡ got a rest
   unfolding single
   single_ok h = rw (← e, h)

@@ -1,12 +1,12 @@
 -- What is printed of a plan is read as that plan. Assumes nothing.
-use Rattle.std.proofs.Common.{◌≡◌, ℕ, zero, suc, ◌+◌, ◌<◌, ◌≤◌, Bool, true, false, not, List, [], ◌∷◌, ◌++◌, length, codes, decimal, sym, refl, ap, ◌∙◌, append_assoc, append-nil, arith, length-append}
+use Rattle.std.proofs.Common.{◌≡◌, ℕ, zero, suc, ◌+◌, ◌<◌, ◌≤◌, Bool, true, false, List, [], ◌∷◌, ◌++◌, length, codes, decimal, sym, refl, ap, ◌∙◌, append_assoc, append-nil, arith, length-append}
 use lib.Seq.{drop-append_seam}
 use Rattle.std.proofs.lemmas.Bool.{cond_both, lt-ltb, le-ltb, eqb-true, and_parts, false≢true}
 use Rattle.streams.specs.Meaning.{Expr, Num, Time, Key, Value, Plus, Minus, Times, Quotient, Rest, Less, Same, Not, Sum, Count, Total, Least, Greatest, Stage}
 use Rattle.streams.specs.Calls.{parts, expr_ok, stage_ok, every}
 use Rattle.grammar.specs.declared.refusals.Why.{Why}
 use Rattle.grammar.specs.declared.refusals.Why.TheVariants.{Lateness, Size}
-use Rattle.grammar.specs.Reading.{got, blank, skip, is, starts_digit, starts_letter, is_end, is_the_word, operator, comparison, limited, compared, part, window, aggregate, stage, stages, plan, reading}
+use Rattle.grammar.specs.Reading.{got, skip, is, starts_digit, starts_letter, is_end, is_the_word, operator, comparison, limited, part, window, aggregate, stage, stages, plan, reading}
 use Rattle.grammar.specs.Printing.{shown, is_number_one, is_just_key, is_value, said, named, text_of_stage, text_of_stages, printed}
 use Rattle.grammar.specs.Laws.{PrintReads}
 use Rattle.grammar.proofs.Places.{limited_in}

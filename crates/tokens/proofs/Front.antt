@@ -6,7 +6,7 @@ use Rattle.std.specs.Ordering.{is_le, nat_cmp}
 use Rattle.std.specs.Char.{is_ascii_digit}
 use Rattle.streams.specs.Meaning.{top}
 use Rattle.grammar.specs.declared.refusals.Why.TheVariants.{Large, Joined}
-use Rattle.grammar.specs.Reading.{got, bad, letter, skip, blank, starts_digit, starts_letter, digits}
+use Rattle.grammar.specs.Reading.{bad, letter, skip, blank, starts_digit, starts_letter, digits}
 
 -- where there is no first byte
 module _ (bs : List ℕ) (none : length bs < 1) where
@@ -63,11 +63,6 @@ pub digits_joined : (start : List ℕ) (n : ℕ) (bs : List ℕ) → starts_digi
 unfolding digits starts_digit starts_letter
 digits_joined start n [] d l = let z : ◌≡◌ {A = ℕ} 0 1 = cc in absurd (omega arith)
 digits_joined start n (c ∷ cs) d l = rw (d, l)
-
-pub digits_done : (start : List ℕ) (n : ℕ) (bs : List ℕ) → starts_digit bs ≡ false → starts_letter bs ≡ false → digits start n bs ≡ got n bs
-unfolding digits starts_digit starts_letter
-digits_done start n [] d l = refl
-digits_done start n (c ∷ cs) d l = rw (d, l)
 
 -- the test of a range, by numbers
 cmp_le : (a b : ℕ) → is_le (nat_cmp a b) ≡ leb a b

@@ -1,7 +1,7 @@
 -- One stage: an event more among the cells that have ended, and stages one after the other.
 -- Assumes nothing.
 use Rattle.std.proofs.Common.{◌≡◌, ℕ, zero, suc, ◌+◌, ◌<◌, ◌≤◌, Bool, true, false, cond, not, ◌||◌, eqb, leb, List, [], ◌∷◌, map, length, get_or, take, drop, sym, refl, ap, ◌∙◌, append-nil, arith}
-use Rattle.std.proofs.lemmas.List.{map_more, take_all}
+use Rattle.std.proofs.lemmas.List.{map_more}
 use Rattle.std.proofs.lemmas.Bool.{leb-true, leb-false, and_parts}
 use Rattle.std.proofs.lemmas.Bool.Decides.{nat_tests}
 use Rattle.streams.specs.Meaning as spec
@@ -41,9 +41,6 @@ module _ (st : spec.Stage) (m : ℕ) (es : List Event) (i : ℕ) where
   cells_more d cs ds lt is e =
       rw (e, is, map_more as_event es i d lt, cells_mid st (map as_event (take i es)) [] (as_event (get_or es i d)), append-nil (map as_event (take i es)))
       (sym (ended_more st m (as_event (get_or es i d)) (cells st (map as_event (take i es))) (sorted st (map as_event (take i es)))))
-
-  pub all_through : (cs : List spec.Cell) → length es ≤ i → cs ≡ ended m (cells st (map as_event (take i es))) → cs ≡ ended m (cells st (map as_event es))
-  all_through cs le is = is ∙ ap (λ (xs : List Event). ended m (cells st (map as_event xs))) (take_all i es le)
 
 -- a stage of a plan within its limits
 size_of : (s : spec.Stage) → stage_ok s ≡ true → 0 < s.size

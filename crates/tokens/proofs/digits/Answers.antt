@@ -2,7 +2,8 @@ use Rattle.std.proofs.Common.{◌≡◌, ◌+◌, ◌-◌, ◌*◌, ◌<◌, fal
 use Rattle.std.proofs.lemmas.Grind.{common_steps}
 use Rattle.std.proofs.lemmas.List.{take_rest}
 use Rattle.grammar.specs.Reading.{starts_digit, digits}
-use Rattle.tokens.proofs.Front.{fronts, digits_goes, digits_joined, digits_done}
+use Rattle.tokens.proofs.Front.{fronts, digits_goes, digits_joined}
+use Rattle.grammar.proofs.Places.{digits_done}
 use Rattle.tokens.proofs.digits.Goals as goal
 use Rattle.tokens.proofs.digits.Goals.{in_default, in_default-2, in_default-3}
 
