@@ -71,7 +71,8 @@ pub fn number_from<T: Octets<N>, const N: usize>(bytes: &[u8]) -> Option<(T, &[u
 }
 
 // Both of these write bytes over those of `out` from `at` on, and say where they end. Callers have found room for the
-// whole of what they write, so it is asked for instead of refused half-way.
+// whole of what they write, so it is asked for instead of refused half-way. `at` and no slice of what is left: callers
+// promise of `out` from its front.
 pub fn write_number<T: Octets<N>, const N: usize>(out: &mut [u8], at: usize, n: T) -> usize
     requires { at + N ≤ length out.old }
     ensures ends { result ≡ at + N }
