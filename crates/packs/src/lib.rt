@@ -1,6 +1,7 @@
 // Index pages: too many segments of one level become a page and one segment of the next level, and come back when that
 // segment is the first.
-// What is called here requires room of its caller, the code that lends the memory: it has proved it.
+// What is called here requires room of its caller, the code that lends the memory: it has proved it. Who has no front or
+// buffer lends empty ones.
 #![tactic(auto)]
 
 ghost use Rattle.std.specs.Prelude.{◌≡◌, suc, ◌+◌, ◌<◌, ◌≤◌, length};

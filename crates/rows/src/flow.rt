@@ -24,7 +24,7 @@ pub enum Onward {
 }
 
 // The row of an event in a stage. None if the stage does not keep it, or if its window's end is beyond 64 bits: such a
-// window never ends.
+// window never ends. The crate `windows` goes the same way to a cell: a tuple of what they share would be no plainer.
 pub fn row_of(stage: &Stage, number: StageNumber, event: Event) -> Option<Row>
     requires { 0 < stage.now.size.0 }
     ensures { Enters (stage_of stage.now) number.0 (as_event event) result }

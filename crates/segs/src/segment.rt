@@ -8,7 +8,8 @@ use plans::numbers::{Key, Time};
 use rows::row::{RowKey, StageNumber};
 use tables::Table;
 
-// The number of a row page or an index page.
+// The number of a row page or an index page. Any number may be one: a type that left room for one more would ask more of
+// callers.
 #[derive(Clone, Copy, PartialEq, Eq, PartialOrd, Ord, Debug)]
 pub struct PageNumber(pub u64);
 

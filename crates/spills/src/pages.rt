@@ -27,6 +27,7 @@ pub struct Pages<'a> {
 }
 
 // What rows became: one page, with one below it or none, or two of a segment that splits, which have none below them.
+// No `Option`: two pages are not none.
 #[derive(Clone, Copy, PartialEq, Eq, Debug)]
 pub enum Spilt {
     One { below: Option<PageNumber> },

@@ -1,5 +1,6 @@
 // A table: items at the front of memory that is lent, with room behind them for more.
 // It is to such memory what a `Vec` is to the heap, of which a worker takes none: who calls has proved that there is room.
+// How much room is lent no type can say, so each method says that it stays.
 #![tactic(auto)]
 
 ghost use Rattle.std.specs.Prelude.{◌≡◌, ◌+◌, ◌<◌, ◌≤◌, ◌++◌, length, take, drop, slice_set};
@@ -75,6 +76,7 @@ impl<'a, T: Copy> Table<'a, T> {
         self.count += from.len();
     }
 
+    // `Range` is the library's: its type does not keep its order.
     pub fn remove_range(&mut self, range: Range<usize>)
         requires order { range.start ≤ range.end }
         requires within { range.end ≤ length self.old.items }
