@@ -116,7 +116,7 @@ impl From<Refusal> for u8 {
 impl TryFrom<u8> for Refusal {
     type Error = Unknown;
 
-    ghost try_from_gives = { λ n r. MatchResult r (λ why. number_of why ≡ n) (λ _. (why : Why) → number_of why ≢ n) };
+    ghost try_from_gives = { λ n r. MatchResult r (λ why. number_of why ≡ n) (λ unknown. (unknown.0 ≡ n) × ((why : Why) → number_of why ≢ n)) };
 
     fn try_from(number: u8) -> Result<Refusal, Unknown> {
         match number {

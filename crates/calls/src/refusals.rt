@@ -11,8 +11,9 @@ use plans::entries::Entry;
 const TIMES_END: u64 = 4_611_686_018_427_387_904;
 
 // So many events at most are asked for at once.
-const MOST: u16 = 1024;
+pub const MOST: u16 = 1024;
 
+// An arm for each, no `entry.time()`: that was tried, and only an arm tells the proof that an event's numbers are words.
 fn in_range(entry: Entry) -> bool
     ensures { result ≡ entry_ok (entry_of entry) }
 {
