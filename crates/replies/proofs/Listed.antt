@@ -1,7 +1,8 @@
 -- Events listed as bytes are read again, and bytes read as events are listed again. Assumes nothing.
 use Rattle.std.proofs.Common.{◌≡◌, ℕ, zero, suc, ◌+◌, ◌*◌, ◌/◌, ◌^◌, ◌<◌, ◌≤◌, List, [], ◌∷◌, ◌++◌, length, get_or, take, drop, Some, None, sym, refl, ap, ◌∙◌, arith, length-drop, get_or-drop, take_all}
 use lib.Seq.{take-append-add}
-use Rattle.std.proofs.lemmas.List.{drop-drop}
+use Rattle.std.proofs.lemmas.List.{drop-drop, take-append-drop}
+use Rattle.std.specs.Simd.{first_chunks}
 use Rattle.streams.specs.Meaning.{Event}
 use Rattle.octets.specs.Form.{eight, word_of}
 use Rattle.octets.proofs.Bytes.{eight_of, eight_value}
@@ -27,12 +28,21 @@ listed_at (suc n) (suc i) bs d h =
 first_back : (e : Event) (rest : List ℕ) → e.time < 2 ^ 64 → e.key < 2 ^ 64 → e.value < 2 ^ 64 → first_of (eight e.time ++ eight e.key ++ eight e.value ++ rest) ≡ e
 first_back e rest t k v = λ i. record { time = sym (eight_value e.time t) i; key = sym (eight_value e.key k) i; value = sym (eight_value e.value v) i }
 
+-- the i-th whole part of 24 bytes
+pub chunk_at : (n i : ℕ) (bs d : List ℕ) → i < n → get_or (first_chunks 24 n bs) i d ≡ take 24 (drop (24 * i) bs)
+chunk_at zero i bs d h = absurd (omega arith)
+chunk_at (suc n) zero bs d h = refl
+chunk_at (suc n) (suc i) bs d h =
+    let e : 24 + 24 * i ≡ 24 * suc i = omega arith in
+    chunk_at n i (drop 24 bs) d (omega arith) ∙ ap (take 24) (drop-drop (24 * i) 24 bs ∙ ap (λ k. drop k bs) e)
+
 -- the event that stands behind i others
-pub event_at : (i : ℕ) (bs rest : List ℕ) (e : code.Event) → e.time.0 < 2 ^ 64 → e.key.0 < 2 ^ 64 → e.value.0 < 2 ^ 64 → drop (24 * i) bs ≡ event_bytes e ++ rest → Got (events_in bs) i (Some e)
-event_at i bs rest e t k v is =
+pub event_at : (i : ℕ) (bs rest : List ℕ) (e : code.Event) → e.time.0 < 2 ^ 64 → e.key.0 < 2 ^ 64 → e.value.0 < 2 ^ 64 → i < length bs / 24 → take 24 (drop (24 * i) bs) ≡ event_bytes e ++ rest → Got (events_in bs) i (Some e)
+event_at i bs rest e t k v in_range is =
     let many = length_listed (length bs / 24) bs in
-    let in_range : i < length bs / 24 = omega (arith, ap length is, length-drop (24 * i) bs) in
-    (omega arith, listed_at (length bs / 24) i bs (as_event e) in_range ∙ ap first_of is ∙ first_back (as_event e) rest t k v)
+    let behind = drop 24 (drop (24 * i) bs) in
+    let whole : drop (24 * i) bs ≡ event_bytes e ++ (rest ++ behind) = sym (take-append-drop 24 (drop (24 * i) bs)) ∙ ap (λ l. l ++ behind) is in
+    (omega arith, listed_at (length bs / 24) i bs (as_event e) in_range ∙ ap first_of whole ∙ first_back (as_event e) (rest ++ behind) t k v)
 
 pub none_at : (i : ℕ) (bs : List ℕ) → length bs < 24 * i + 24 → Got (events_in bs) i None
 none_at i bs h = omega (arith, length_listed (length bs / 24) bs)

@@ -26,8 +26,8 @@ impl<'a> Events<'a> {
     pub fn get(&self, i: usize) -> Option<Event>
         ensures { Got (events_in self.now.bytes.now) i result }
     {
-        let at = i.checked_mul(EVENT)?;
-        let (event, _) = event_from(self.bytes.get(at..)?)?;
+        let (events, _) = self.bytes.as_chunks::<EVENT>();
+        let (event, _) = event_from(events.get(i)?)?;
         Some(event)
     }
 }
