@@ -3,6 +3,7 @@
 #![tactic(auto)]
 
 use calls::kinds::Call;
+use calls::refusals::MOST;
 use grammar::refusals::Refusal;
 use keeper::Keeper;
 use keeper::doing::MOST_LOGS;
@@ -24,9 +25,6 @@ use tokens::faults::Fault;
 // The plan if the script names none: events of a tenth of a second counted by key, and of the counts of a second the
 // greatest.
 const PLAN: &[u8] = b"late 10; in 100 count; key 0 in 1000 greatest";
-
-// So many events are asked for at a time.
-const MOST: u16 = 1024;
 
 // A script as far as it was played.
 #[derive(Drop)]
