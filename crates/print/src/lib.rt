@@ -71,6 +71,7 @@ impl Display for Said<'_> {
     }
 }
 
+// The words are the grammar's and `Aggregate` is of `plans`, which knows no grammar: so it is no `Display` of it.
 #[tactic(auto, unfolding(grammar::specs::Printing::named))]
 fn named(aggregate: Aggregate) -> &'static str
     ensures { result.now ≡ named_of (as_sum aggregate) }

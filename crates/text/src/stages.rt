@@ -57,6 +57,7 @@ fn aggregate(b: &[u8]) -> Result<(Aggregate, &[u8]), Unexpected>
     }
 }
 
+// No `TryFrom`: the words are the grammar's and `Aggregate` is of `plans`, which knows no grammar.
 fn named(word: &[u8]) -> Option<Aggregate>
     ensures { option_map as_sum result ≡ named_of word.now }
 {
