@@ -2,11 +2,11 @@
 // Built as a static library for tests and measurements. specs/Shown says what each struct shows.
 #![tactic(auto)]
 
-ghost use Rattle.std.specs.Prelude.{◌≡◌, ℕ, Option as Maybe, Result as Either};
-ghost use Rattle.std.specs.Option.{unwrap_or};
-ghost use Rattle.std.specs.Result.{result_ok};
+ghost use Rattle.std.specs.Prelude.{◌≡◌, ℕ, Ok, Option as Maybe, Result as Either};
+ghost use Rattle.std.specs.Option.{ok_or, unwrap_or};
 ghost use Rattle.calls.specs.declared.kinds.Call.{Call as C};
 ghost use Rattle.calls.specs.declared.kinds.Refusal.{Refusal as Why};
+ghost use Rattle.calls.specs.declared.kinds.Refusal.TheVariants.{Invalid};
 ghost use Rattle.calls.specs.Form.{Reads};
 ghost use Rattle.plans.specs.declared.entries.Event.{Event as E};
 ghost use Rattle.replies.specs.declared.kinds.Reply.{Reply as Answer};
@@ -67,46 +67,54 @@ pub struct LineFields {
     pub size: usize,
 }
 
+impl From<Call> for CallFields {
+    ghost from_gives = { λ call fields. fields ≡ shown_call (Ok call) };
+
+    fn from(call: Call) -> CallFields {
+        let kind = u8::from(call.kind());
+        let none = CallFields::default();
+        match call {
+            Call::Put {
+                log,
+                entry: Entry::Happened(event),
+            } => CallFields {
+                kind,
+                log: log.0,
+                at: event.time.0,
+                key: event.key.0,
+                value: event.value.0,
+                ..none
+            },
+            Call::Put {
+                log,
+                entry: Entry::Still(time),
+            } => CallFields {
+                kind,
+                log: log.0,
+                at: time.0,
+                ..none
+            },
+            Call::Out { from, most } => CallFields {
+                kind,
+                most,
+                at: from.0,
+                ..none
+            },
+            Call::Drop { before } => CallFields {
+                kind,
+                at: before.0,
+                ..none
+            },
+        }
+    }
+}
+
 impl From<Result<Call, Refusal>> for CallFields {
     ghost from_gives = { λ call fields. fields ≡ shown_call call };
 
     fn from(call: Result<Call, Refusal>) -> CallFields {
         match call {
-            Ok(
-                Call::Put {
-                    log,
-                    entry: Entry::Happened(event),
-                },
-            ) => CallFields {
-                kind: u8::from(Kind::Put),
-                log: log.0,
-                at: event.time.0,
-                key: event.key.0,
-                value: event.value.0,
-                ..CallFields::default()
-            },
-            Ok(
-                Call::Put {
-                    log,
-                    entry: Entry::Still(time),
-                },
-            ) => CallFields {
-                kind: u8::from(Kind::Still),
-                log: log.0,
-                at: time.0,
-                ..CallFields::default()
-            },
-            Ok(Call::Out { from, most }) => CallFields {
-                kind: u8::from(Kind::Out),
-                most,
-                at: from.0,
-                ..CallFields::default()
-            },
-            Ok(Call::Drop { before }) => CallFields {
-                kind: u8::from(Kind::Drop),
-                at: before.0,
-                ..CallFields::default()
-            },
+            Ok(call) => CallFields::from(call),
             Err(why) => CallFields {
                 refused: u8::from(why),
                 ..CallFields::default()
@@ -118,7 +126,7 @@ impl From<Result<Call, Refusal>> for CallFields {
 impl TryFrom<&CallFields> for Call {
     type Error = Refusal;
 
-    ghost try_from_gives = { λ fields r. result_ok r ≡ call_in fields.now };
+    ghost try_from_gives = { λ fields r. r ≡ ok_or (call_in fields.now) Invalid };
 
     fn try_from(fields: &CallFields) -> Result<Call, Refusal> {
         Ok(match Kind::try_from(fields.kind)? {
