@@ -50,7 +50,7 @@ impl From<Kind> for u8 {
 impl TryFrom<u8> for Kind {
     type Error = Unknown;
 
-    ghost try_from_gives = { λ byte r. MatchResult r (λ kind. byte_of kind ≡ byte) (λ _. (kind : K) → byte_of kind ≢ byte) };
+    ghost try_from_gives = { λ byte r. MatchResult r (λ kind. byte_of kind ≡ byte) (λ unknown. (unknown.0 ≡ byte) × ((kind : K) → byte_of kind ≢ byte)) };
 
     fn try_from(byte: u8) -> Result<Kind, Unknown> {
         match byte {

@@ -11,5 +11,5 @@ returns-in-Err c =
 
 pub returns-in-Err-try_from : goal.returns-in-Err-try_from
 returns-in-Err-try_from c =
-    let no_kind = c.in-Err-try_from.ensures in
+    let no_kind = c.in-Err-try_from.ensures.1 in
     rw (c.in-Replies.is, ne_eqb c.args.kind 0 (λ e. no_kind reply.Refused (sym e)), ne_eqb c.args.kind 2 (λ e. no_kind reply.Out (sym e))) refl
