@@ -47,19 +47,20 @@ less_load e l r v r' v' h k =
 less_rank : (e l r v v' : ℕ) → v' ≤ 6 * e → measure e l r v' < measure e l (suc r) v
 less_rank e l r v v' k = let c : suc r * weights e ≡ r * weights e + weights e = suc-mul r (weights e) in omega arith
 
-record Marked (z : Sizes) (p : Plan) (ls : List (List Entry)) (e : ℕ) (x : Book) (c : ℕ) : Type 0 where
-  sound : SoundBook z p ls x
-  queue : Sound p.stages (watermark p.late x.ledger.logs) (taken_events p.late ls x.ledger.logs) x.row x.ledger.queue (came_out x)
-  taken : length (taken_events p.late ls x.ledger.logs) ≡ e
-  l : ℕ
-  r : ℕ
-  v : ℕ
-  left : 2 * load (length p.stages) (contents (how_of p.stages) queue.held) + length x.ledger.tail ≤ l
-  rank : Rank (how_of p.stages) r queue.held
-  weight : weigh queue.held ≤ v
-  is : c ≡ measure e l r v
+-- a book that is right, with a measure of what is due in it
+pub record Marked (z : Sizes) (p : Plan) (ls : List (List Entry)) (e : ℕ) (x : Book) (c : ℕ) : Type 0 where
+  pub sound : SoundBook z p ls x
+  pub queue : Sound p.stages (watermark p.late x.ledger.logs) (taken_events p.late ls x.ledger.logs) x.row x.ledger.queue (came_out x)
+  pub taken : length (taken_events p.late ls x.ledger.logs) ≡ e
+  pub l : ℕ
+  pub r : ℕ
+  pub v : ℕ
+  pub left : 2 * load (length p.stages) (contents (how_of p.stages) queue.held) + length x.ledger.tail ≤ l
+  pub rank : Rank (how_of p.stages) r queue.held
+  pub weight : weigh queue.held ≤ v
+  pub is : c ≡ measure e l r v
 
-abbrev Sinks : Sizes → Plan → List (List Entry) → ℕ → Book → ℕ → Type 0
+abbrev pub Sinks : Sizes → Plan → List (List Entry) → ℕ → Book → ℕ → Type 0
 Sinks z p ls e x c = (d : ℕ) × (d < c) × Marked z p ls e x d
 
 mark_tidy : (z : Sizes) → SizesOk z → (p : Plan) → PlanFine p → (ls : List (List Entry)) (e : ℕ) (x : Book) (c : ℕ) (k : Step) → Marked z p ls e x c → wanted z p.late x.ledger ≡ Want (Tidy k) → due z (watermark p.late x.ledger.logs) x.ledger.queue ≡ Do k → Sinks z p ls e (after_turn (turn_of z p (Tidy k) x) x) c
@@ -160,7 +161,7 @@ mark_publish z zo p fine ls e x c g w n = by g.l refl
     )
 
 -- EACH STEP LOWERS IT
-mark_turn : (z : Sizes) → SizesOk z → (p : Plan) → PlanFine p → (ls : List (List Entry)) (e : ℕ) (x : Book) (c : ℕ) (k : Task) → Marked z p ls e x c → wanted z p.late x.ledger ≡ Want k → Sinks z p ls e (after_turn (turn_of z p k x) x) c
+pub mark_turn : (z : Sizes) → SizesOk z → (p : Plan) → PlanFine p → (ls : List (List Entry)) (e : ℕ) (x : Book) (c : ℕ) (k : Task) → Marked z p ls e x c → wanted z p.late x.ledger ≡ Want k → Sinks z p ls e (after_turn (turn_of z p k x) x) c
 unfolding wanted_by
 mark_turn z zo p fine ls e x c k g w = go (leb z.outs (length x.ledger.tail)) refl w
   where
@@ -189,17 +190,15 @@ comes z zo p fine ls e (suc b) x c h g = go (wanted z p.late x.ledger) refl (λ 
         on : Sinks z p ls e (after_turn (turn_of z p k x) x) c → Comes z p ls x c
         on (d, i, m) = let r : Comes z p ls (after_turn (turn_of z p k x) x) d = ih (after_turn (turn_of z p k x) x) d (omega (arith, i, h)) m in (suc r.0, r.1, goes k w r.2, omega (arith, r.3, i), r.4, r.5)
 
-pub ends_soon : EndsSoon
-ends_soon z zo p fine ls x s = comes z zo p fine ls e (suc c) x c (omega arith) (record { sound = s; queue = s.queue; taken = refl; l = 2 * (n * e) + length x.ledger.tail; r = e + 1; v = 6 * e; left = left; rank = rank (e + 1) refl; weight = light; is = refl })
+-- at first it is as great as it can be
+pub marked : (z : Sizes) (p : Plan) (ls : List (List Entry)) (x : Book) → SoundBook z p ls x → Marked z p ls (length (taken_events p.late ls x.ledger.logs)) x (most_steps (length p.stages) (length (taken_events p.late ls x.ledger.logs)) (length x.ledger.tail))
+marked z p ls x s = record { sound = s; queue = s.queue; taken = refl; l = 2 * (n * e) + length x.ledger.tail; r = e + 1; v = 6 * e; left = left; rank = rank (e + 1) refl; weight = light; is = refl }
   where
     n : ℕ
     n = length p.stages
 
     e : ℕ
     e = length (taken_events p.late ls x.ledger.logs)
-
-    c : ℕ
-    c = most_steps n e (length x.ledger.tail)
 
     h : Held
     h = s.queue.held
@@ -216,6 +215,9 @@ ends_soon z zo p fine ls x s = comes z zo p fine ls e (suc c) x c (omega arith) 
     rank : (r : ℕ) → r ≡ e + 1 → Rank (how_of p.stages) r h
     rank zero i = absurd (omega arith)
     rank (suc r) i = inr (omega (arith, i, deep))
+
+pub ends_soon : EndsSoon
+ends_soon z zo p fine ls x s = let c : ℕ = most_steps (length p.stages) (length (taken_events p.late ls x.ledger.logs)) (length x.ledger.tail) in comes z zo p fine ls (length (taken_events p.late ls x.ledger.logs)) (suc c) x c (omega arith) (marked z p ls x s)
 
 -- ROOM TO TAKE
 not_due : (b : Bool) (x : Step) (d : Due) → cond b (Do x) d ≡ Nothing → (b ≡ false) × (d ≡ Nothing)
@@ -243,7 +245,7 @@ unfolding take_events
 takes_one z sts [] i q r h = absurd (omega arith)
 takes_one z sts (e ∷ es) i q r h = rw r (omega (arith, took_more z sts es (suc i) (take' sts e q)))
 
-taken_set : (l : ℕ) (u : Taken) (ts : List Taken) → l < length ts → taken_of l (set_at l u ts) ≡ u
+pub taken_set : (l : ℕ) (u : Taken) (ts : List Taken) → l < length ts → taken_of l (set_at l u ts) ≡ u
 unfolding taken_of set_at
 taken_set zero u [] h = absurd (omega arith)
 taken_set (suc l) u [] h = absurd (omega arith)

@@ -8,19 +8,19 @@ use Rattle.book.specs.Queue.{Link, nil, page, Page, Blank, Write}
 use Rattle.book.proofs.Book.{sound_take, logs_at}
 use Rattle.book.specs.Due.{Sizes, SizesOk, Sized}
 use Rattle.book.specs.Book.{PlanFine, Book, LogRight, HeldOnce, log_of, take_into}
-use Rattle.book.specs.Small.{StagesFit, Fits, SizesSmall, PlanSmall}
-use Rattle.book.specs.Limits.{Limits}
+use Rattle.book.specs.Small.{StagesFit, total, Fits, SizesSmall, PlanSmall}
+use Rattle.book.specs.Limits.{Limits, longest}
 use Rattle.book.specs.Levels.{Within}
 use Rattle.book.specs.Ledger.{Served, LogBox, Ledger, workers, log_box, is_old, took, taken_of, Wanted, Rest, Want, wanted, Publish, Tidy, OutWrite, Turn, does, watermark, Task, shows_of}
-use Rattle.book.specs.Words.{just, bytes_of, write_all, write_list, write_event, write_served, write_log, write_ledger, AreWords, Maybe, page_in}
-use Rattle.book.specs.Real.{sizes, log_or, ledger_or, real, are_words, writes, row_fillings, out_fillings, take_by, due_by, pages_by, rests, turn_on, turn_by}
-use Rattle.book.specs.Interface.{Safe, lacks, gives, nothing}
-use Rattle.book.specs.Right.{Right, OldLedger, OldLog, Floor, Spent, BookLaws, BookFits, BookAnswersAll, BookTakes}
-use Rattle.book.proofs.Limits.{limits, events_long, ledger_fits, writes_few}
+use Rattle.book.specs.Words.{just, bytes_of, write_all, write_list, write_event, write_served, write_log, write_ledger, wide, AreWords, AreNumbers, Maybe, page_in}
+use Rattle.book.specs.Real.{sizes, log_or, ledger_or, real, are_numbers, writes, row_fillings, out_fillings, take_by, due_by, pages_by, rests, turn_on, turn_by}
+use Rattle.book.specs.Interface.{horizon, Safe, lacks, gives, nothing}
+use Rattle.book.specs.Right.{Right, OldLedger, OldLog, Floor, Spent, BookLaws, BookWords, BookFits, BookAnswersAll, BookTakes}
+use Rattle.book.proofs.Limits.{limits, events_long, ledger_below, page_below, writes_few}
 use Rattle.book.proofs.Room.{room_kept}
 use Rattle.book.proofs.Levels.{levels_kept, ledger_short}
 use Rattle.book.proofs.Words.{reads_back}
-use Rattle.book.proofs.Real.{bytes_long, bytes_bytes, calls_none}
+use Rattle.book.proofs.Real.{bytes_most, bytes_bytes, calls_none}
 use Rattle.book.proofs.Safe.{laws, answers_all}
 
 and_left : (a b : Bool) → T (a && b) → T a
@@ -46,24 +46,24 @@ sized : (sts : List Stage) → StagesFit sts → Sized sts
 sized [] h = tt
 sized (st ∷ sts) h = (h.0, sized sts h.2)
 
-plan_small : (p : Plan) → T (plan_ok p) → PlanSmall p
+pub plan_small : (p : Plan) → T (plan_ok p) → PlanSmall p
 plan_small p h = record { few = leb→le (length p.stages) 8 (and_right (leb p.late 1099511627776 && ltb 0 (length p.stages)) (leb (length p.stages) 8) (and_left (leb p.late 1099511627776 && ltb 0 (length p.stages) && leb (length p.stages) 8) (every stage_ok p.stages) h)); stages = stages_ok p.stages (and_right (leb p.late 1099511627776 && ltb 0 (length p.stages) && leb (length p.stages) 8) (every stage_ok p.stages) h) }
 
-plan_fine : (p : Plan) → T (plan_ok p) → PlanFine p
+pub plan_fine : (p : Plan) → T (plan_ok p) → PlanFine p
 plan_fine p h =
     record {
       some = ltb→lt 0 (length p.stages) (and_right (leb p.late 1099511627776) (ltb 0 (length p.stages)) (and_left (leb p.late 1099511627776 && ltb 0 (length p.stages)) (leb (length p.stages) 8) (and_left (leb p.late 1099511627776 && ltb 0 (length p.stages) && leb (length p.stages) 8) (every stage_ok p.stages) h)));
       sized = sized p.stages (plan_small p h).stages;
     }
 
-sizes_ok : SizesOk sizes
+pub sizes_ok : SizesOk sizes
 sizes_ok = (omega arith, omega arith, omega arith, omega arith, omega arith)
 
-sizes_small : SizesSmall sizes
+pub sizes_small : SizesSmall sizes
 sizes_small = record { emits = omega arith; rows = omega arith; segments = omega arith; outs = omega arith }
 
 -- all limits together
-all_limits : (z : Sizes) → SizesOk z → SizesSmall z → (p : Plan) → PlanFine p → PlanSmall p → (logs : ℕ) → logs ≤ 256 → Limits z p logs 72057594037927936 (Within z)
+pub all_limits : (z : Sizes) → SizesOk z → SizesSmall z → (p : Plan) → PlanFine p → PlanSmall p → (logs : ℕ) → logs ≤ 256 → Limits z p logs longest (Within z)
 all_limits z zo sz p pf ps logs hl =
     record {
       starts = record { fits = L.starts; room = (room_kept z zo p).0 logs; levels = (levels_kept z zo p).0 logs };
@@ -78,57 +78,72 @@ all_limits z zo sz p pf ps logs hl =
       out_short = λ k v so w e a. L.out_short k v so w.fits e a;
     }
   where
-    L : Limits z p logs 72057594037927936 (Fits z)
+    L : Limits z p logs longest (Fits z)
     L = limits z zo sz p pf ps logs hl
 
 pub book_laws : BookLaws
-book_laws p h logs hl = laws sizes sizes_ok p (plan_fine p h) logs 72057594037927936 (Within sizes) (all_limits sizes sizes_ok sizes_small p (plan_fine p h) (plan_small p h) logs hl)
+book_laws p h logs hl = laws sizes sizes_ok p (plan_fine p h) logs longest (Within sizes) (all_limits sizes sizes_ok sizes_small p (plan_fine p h) (plan_small p h) logs hl)
 
 pub book_answers_all : BookAnswersAll
-book_answers_all p h logs hl = answers_all sizes sizes_ok p (plan_fine p h) logs 72057594037927936 (Within sizes) (all_limits sizes sizes_ok sizes_small p (plan_fine p h) (plan_small p h) logs hl)
+book_answers_all p h logs hl = answers_all sizes sizes_ok p (plan_fine p h) logs longest (Within sizes) (all_limits sizes sizes_ok sizes_small p (plan_fine p h) (plan_small p h) logs hl)
 
 -- as a worker takes it
-pub book_safe : (p : Plan) → T (plan_ok p) → (logs : ℕ) → logs ≤ 256 → Safe (real sizes p logs) p logs
-book_safe p h logs hl = record { bound = 72057594037927936; far = omega arith; Sound = Right sizes p logs (Within sizes); OldLedger = OldLedger logs; OldLog = OldLog p.late logs; Floor = Floor logs; Spent = Spent logs; laws = book_laws p h logs hl }
+abbrev pub book_safe : (p : Plan) → T (plan_ok p) → (logs : ℕ) → logs ≤ 256 → Safe (real sizes p logs) p logs
+book_safe p h logs hl = record { bound = longest; far = omega arith; Sound = Right sizes p logs (Within sizes); OldLedger = OldLedger logs; OldLog = OldLog p.late logs; Floor = Floor logs; Spent = Spent logs; laws = book_laws p h logs hl }
+
+-- NUMBERS ARE WORDS
+pub book_words : BookWords
+book_words p logs n ls f h r = (ledger_below top (omega arith) sizes p n ls r.book sizes_small (omega (arith, h)) r.sound r.within.fits, λ k. page_below top (omega arith) sizes (4 * n + 4) (r.book.row k) sizes_small (omega (arith, h)) (r.within.fits.pages k))
 
 -- THE LEDGER AND THE LOG BOXES FIT
-short : (ws : List ℕ) → 8 * length ws ≤ 262144 → T (leb (length (bytes_of ws)) 262144 && all_bytes (bytes_of ws))
-short ws h = subst T (sym (and_from (leb (length (bytes_of ws)) 262144) (all_bytes (bytes_of ws)) (le-leb (length (bytes_of ws)) 262144 (omega (arith, h, bytes_long ws))) (bytes_bytes ws))) tt
+abbrev Short : (most : ℕ) → List ℕ → Type 0
+Short t bs = T (leb (length bs) t && all_bytes bs)
 
-none_short : T (leb (length {A = ℕ} []) 262144 && all_bytes [])
+short : (t : ℕ) (ns : List ℕ) → length (bytes_of ns) ≤ t → Short t (bytes_of ns)
+short t ns h = subst T (sym (and_from (leb (length (bytes_of ns)) t) (all_bytes (bytes_of ns)) (le-leb (length (bytes_of ns)) t h) (bytes_bytes ns))) tt
+
+none_short : (t : ℕ) → Short t []
 unfolding all_bytes
-none_short = tt
+none_short t = subst T (sym (and_from (leb 0 t) true (le-leb 0 t (omega arith)) refl)) tt
 
-ledger_bytes : (logs : ℕ) (bs : List ℕ) (y : Ledger) → ledger_or logs bs ≡ just y → 8 * length (write_ledger y) ≤ 262144 → T (leb (length bs) 262144 && all_bytes bs)
+ledger_bytes : (t logs : ℕ) (bs : List ℕ) (y : Ledger) → ledger_or logs bs ≡ just y → length (bytes_of (write_ledger y)) ≤ t → Short t bs
 unfolding ledger_or
-ledger_bytes logs [] y e h = none_short
-ledger_bytes logs (x ∷ bs) y e h = subst (λ (b : List ℕ). T (leb (length b) 262144 && all_bytes b)) (sym (reads_back.1.only (x ∷ bs) y e).0) (short (write_ledger y) h)
+ledger_bytes t logs [] y e h = none_short t
+ledger_bytes t logs (x ∷ bs) y e h = subst (Short t) (sym (reads_back.1.only (x ∷ bs) y e).0) (short t (write_ledger y) h)
 
 served_long : (ss : List Served) → length (write_all write_served ss) ≡ 2 * length ss
 unfolding write_all
 served_long [] = refl
 served_long (s ∷ ss) = omega (arith, served_long ss)
 
-log_bytes : (bs : List ℕ) (b : LogBox) → log_or bs ≡ just b → length b.events ≤ 512 → T (leb (length bs) 262144 && all_bytes bs)
+log_bytes : (t : ℕ) → 262144 ≤ t → (bs : List ℕ) (b : LogBox) → log_or bs ≡ just b → length b.events ≤ 512 → Short t bs
 unfolding log_or
-log_bytes [] b e h = none_short
-log_bytes (x ∷ bs) b e h =
-    let o : (x ∷ bs ≡ bytes_of (write_log b)) × AreWords (write_log b) × (length b.served ≡ workers) = reads_back.0.only (x ∷ bs) b e in
-    subst (λ (c : List ℕ). T (leb (length c) 262144 && all_bytes c)) (sym o.0) (short (write_log b) (omega (arith, h, o.2, length-append (write_list write_event b.events) (write_all write_served b.served), events_long b.events, served_long b.served)))
+log_bytes t u [] b e h = none_short t
+log_bytes t u (x ∷ bs) b e h =
+    let o : (x ∷ bs ≡ bytes_of (write_log b)) × AreNumbers (write_log b) × (length b.served ≡ workers) = reads_back.0.only (x ∷ bs) b e in
+    subst (Short t) (sym o.0) (short t (write_log b) (omega (arith, u, h, o.2, length-append (write_list write_event b.events) (write_all write_served b.served), events_long b.events, served_long b.served, bytes_most (write_log b))))
 
 pub book_fits : BookFits
-book_fits p logs n ls f h r b (inl e) =
-    subst (λ (c : ℕ). T (leb (length (f c).bytes) 262144 && all_bytes (f c).bytes)) (sym e) (ledger_bytes logs (f 0).bytes r.book.ledger r.ledger (omega (arith, bytes_long (write_ledger r.book.ledger), ledger_short p n ls r.book h r.sound r.within.fits r.within.room r.within.levels)))
-book_fits p logs n ls f h r b (inr (l, hl, e)) = subst (λ (c : ℕ). T (leb (length (f c).bytes) 262144 && all_bytes (f c).bytes)) (sym e) (log_bytes (f (log_box l)).bytes (r.book.log l) (r.log l hl) (r.within.room.log l))
+book_fits p logs n ls f r b (inl e) = (
+  λ h. subst (λ (c : ℕ). Short 262144 (f c).bytes) (sym e) (ledger_bytes 262144 logs (f 0).bytes r.book.ledger r.ledger (omega (arith, (brief (omega (arith, h, r.within.fits.many))).1 (book_words p logs n ls f h r).0))),
+  λ h. subst (λ (c : ℕ). Short 1048576 (f c).bytes) (sym e) (ledger_bytes 1048576 logs (f 0).bytes r.book.ledger r.ledger (omega (arith, (brief (omega (arith, h))).0))),
+)
+  where
+    brief : total ls ≤ 8 * horizon → (length (bytes_of (write_ledger r.book.ledger)) < 1048576) × (AreWords (write_ledger r.book.ledger) → length (bytes_of (write_ledger r.book.ledger)) < 262144)
+    brief m = ledger_short p n ls r.book m r.sound r.within.fits r.within.room r.within.levels
+book_fits p logs n ls f r b (inr (l, hl, e)) = (λ h. subst (λ (c : ℕ). Short 262144 (f c).bytes) (sym e) (fit 262144 (omega arith)), λ h. subst (λ (c : ℕ). Short 1048576 (f c).bytes) (sym e) (fit 1048576 (omega arith)))
+  where
+    fit : (t : ℕ) → 262144 ≤ t → Short t (f (log_box l)).bytes
+    fit t u = log_bytes t u (f (log_box l)).bytes (r.book.log l) (r.log l hl) (r.within.room.log l)
 
 -- TAKING
-all_words : (ws : List ℕ) → AreWords ws → are_words ws ≡ true
-unfolding are_words
-all_words [] h = refl
-all_words (w ∷ ws) h = and_from (ltb w top) (are_words ws) (lt-ltb w top h.0) (all_words ws h.1)
+all_numbers : (ns : List ℕ) → AreNumbers ns → are_numbers ns ≡ true
+unfolding are_numbers
+all_numbers [] h = refl
+all_numbers (n ∷ ns) h = and_from (ltb n wide) (are_numbers ns) (lt-ltb n wide h.0) (all_numbers ns h.1)
 
-writes_given : (b : Bool) (ws : List ℕ) → b ≡ true → AreWords ws → writes b ws ≡ lacks → ⊥
-writes_given b ws h a e = let t : gives (bytes_of ws) ≡ lacks = sym (ap (λ (c : Bool). cond c (gives (bytes_of ws)) lacks) (and_from b (are_words ws) h (all_words ws a))) ∙ e in (let k : ◌≡◌ {A = ℕ} 0 1 = cc in omega arith)
+pub writes_given : (b : Bool) (ns : List ℕ) → b ≡ true → AreNumbers ns → writes b ns ≡ lacks → ⊥
+writes_given b ns h a e = let t : gives (bytes_of ns) ≡ lacks = sym (ap (λ (c : Bool). cond c (gives (bytes_of ns)) lacks) (and_from b (are_numbers ns) h (all_numbers ns a))) ∙ e in (let k : ◌≡◌ {A = ℕ} 0 1 = cc in omega arith)
 
 few_rows : (ws : List Write) → length (row_fillings ws) ≡ length ws
 unfolding row_fillings
@@ -140,7 +155,7 @@ unfolding out_fillings
 few_outs [] = refl
 few_outs (w ∷ ws) = ap suc (few_outs ws)
 
-not_old : (l : ℕ) (b : LogBox) (x : Ledger) → b.base ≤ (taken_of l x.logs).taken → is_old l b x ≡ false
+pub not_old : (l : ℕ) (b : LogBox) (x : Ledger) → b.base ≤ (taken_of l x.logs).taken → is_old l b x ≡ false
 unfolding is_old
 not_old l b x h = le-ltb (taken_of l x.logs).taken b.base h
 
@@ -169,9 +184,9 @@ pub book_takes : BookTakes
 unfolding take_by due_by
 book_takes p ok logs hl = (takes, few)
   where
-    takes : (n : ℕ) (ls : List (List Entry)) (f : ℕ → Box) → n < 72057594037927936 → Right sizes p logs (Within sizes) n ls f → (real sizes p logs).due (f 0).bytes ≡ nothing → (l : ℕ) → l < logs → (real sizes p logs).take (f 0).bytes l (f (log_box l)).bytes ≡ lacks → ⊥
+    takes : (n : ℕ) (ls : List (List Entry)) (f : ℕ → Box) → n < longest → Right sizes p logs (Within sizes) n ls f → (real sizes p logs).due (f 0).bytes ≡ nothing → (l : ℕ) → l < logs → (real sizes p logs).take (f 0).bytes l (f (log_box l)).bytes ≡ lacks → ⊥
     takes n ls f h r d l hx e =
-        writes_given (not (is_old l b x.ledger)) (write_ledger (took sizes p.stages l b x.ledger)) (ap not new) (ledger_fits sizes p n ls (take_into sizes p l b x) sizes_small (omega (arith, h)) (sound_take sizes p ls x l b (plan_fine p ok) r.sound (omega (arith, hx, r.count)) once new) ((all_limits sizes sizes_ok sizes_small p (plan_fine p ok) (plan_small p ok) logs hl).take l b h r.sound r.within rest hx once new).fits)
+        writes_given (not (is_old l b x.ledger)) (write_ledger (took sizes p.stages l b x.ledger)) (ap not new) (ledger_below wide (omega arith) sizes p n ls (take_into sizes p l b x) sizes_small (omega (arith, h)) (sound_take sizes p ls x l b (plan_fine p ok) r.sound (omega (arith, hx, r.count)) once new) ((all_limits sizes sizes_ok sizes_small p (plan_fine p ok) (plan_small p ok) logs hl).take l b h r.sound r.within rest hx once new).fits)
         (sym (ap (λ (m : Maybe LogBox). take_by sizes p l m (ledger_or logs (f 0).bytes)) (r.log l hx) ∙ ap (take_by sizes p l (just b)) r.ledger) ∙ e)
       where
         x : Book

@@ -10,7 +10,8 @@ use Rattle.book.specs.Flow.{how_of, row_of, Onward, Out, On, Gone, onward}
 use Rattle.book.specs.Due.{Sizes, SizesOk, Emitted, go_on, popped, then', emit_by, emit, Step, Spill, Lower, Pack, Sift, Emit, Unpack, Open, Due, Nothing, Do, Crowd, calm, crowded, crowd, due_crowd, due, shows, index_of, do', pack_many, take', at_level, below_level}
 use Rattle.book.specs.Ledger.{Taken, taken_of, Ledger, watermark, has_room, take_events, new_events, Task, Publish, Tidy, Want, wanted_by, wanted}
 use Rattle.book.specs.Book.{Book, taken_events, SoundBook, turn_of, after_turn}
-use Rattle.book.specs.Small.{PageFit, Fits}
+use Rattle.book.specs.Small.{PageFit, total, Fits}
+use Rattle.book.specs.Interface.{horizon}
 use Rattle.book.specs.Real.{sizes}
 use Rattle.book.specs.Words.{write_all, write_list, write_taken, write_event, write_row, write_seg, write_queue, write_ledger}
 use Rattle.book.specs.Levels.{Climb, Flat, FlatPage, OneOver, Levels, LevelsKept, LedgerShort}
@@ -18,7 +19,7 @@ use Rattle.book.proofs.Due.{crowd_tells, ready, Ready, levels_apart}
 use Rattle.book.proofs.Book.{logs_long}
 use Rattle.book.proofs.Deep.{lows, lows_few}
 use Rattle.book.proofs.Limits.{rows_long, segs_long, events_long, taken_total}
-use Rattle.book.proofs.Real.{bytes_long}
+use Rattle.book.proofs.Real.{bytes_long, bytes_most}
 
 -- COUNTING
 at_append : (v : ℕ) (ss ts : List Seg) → at_level v (ss ++ ts) ≡ at_level v ss + at_level v ts
@@ -623,7 +624,7 @@ all_over z ss o v = go (cases_eq v o.0)
     go (inl e) = subst (λ (x : ℕ). at_level x ss ≤ suc z) (sym e) o.2
     go (inr e) = omega (arith, o.1 v e)
 
-segments_few : (z : Sizes) (p : Plan) (n : ℕ) (ls : List (List Entry)) (x : Book) → n ≤ 72057594037927936 → SoundBook z p ls x → Fits z n ls x → Levels z x → length x.ledger.queue.segments ≤ 60 * suc z.segments
+segments_few : (z : Sizes) (p : Plan) (n : ℕ) (ls : List (List Entry)) (x : Book) → total ls ≤ 8 * horizon → SoundBook z p ls x → Fits z n ls x → Levels z x → length x.ledger.queue.segments ≤ 60 * suc z.segments
 segments_few z p n ls x h s f l = omega (arith, beneath_sums 60 ss (powers_beneath ss (omega (arith, few, h))), over_sums 60 z.segments ss (all_over z.segments ss l.over))
   where
     ss : List Seg
@@ -632,8 +633,8 @@ segments_few z p n ls x h s f l = omega (arith, beneath_sums 60 ss (powers_benea
     g : Held
     g = s.queue.held
 
-    few : powers ss ≤ 8 * n
-    few = omega (arith, ap (λ (q : Queue). powers q.segments) s.queue.is, powers_few Free x.row g.next g.segs l.flat s.queue.pages.0 s.queue.lean.segs, lows_few (how_of p.stages) g s.queue.order s.queue.alive, s.queue.few, taken_total p.late ls x.ledger.logs f.entries, f.many)
+    few : powers ss ≤ total ls
+    few = omega (arith, ap (λ (q : Queue). powers q.segments) s.queue.is, powers_few Free x.row g.next g.segs l.flat s.queue.pages.0 s.queue.lean.segs, lows_few (how_of p.stages) g s.queue.order s.queue.alive, s.queue.few, taken_total p.late ls x.ledger.logs f.entries)
 
 takens_long : (ts : List Taken) → length (write_all write_taken ts) ≡ 2 * length ts
 unfolding write_all
@@ -641,10 +642,17 @@ takens_long [] = refl
 takens_long (t ∷ ts) = omega (arith, takens_long ts)
 
 pub ledger_short : LedgerShort
-ledger_short p n ls x h s f r l =
-    omega (
+ledger_short p n ls x h s f r l = (omega (arith, many, bytes_most (write_ledger y)), λ w. omega (arith, many, bytes_long (write_ledger y) w))
+  where
+    y : Ledger
+    y = x.ledger
+
+    q : Queue
+    q = x.ledger.queue
+
+    many : length (write_ledger y) ≤ 21400
+    many = omega (
       arith,
-      bytes_long (write_ledger y),
       length-append (write_list write_taken y.logs) (write_list write_event y.tail ++ write_queue q),
       length-append (write_list write_event y.tail) (write_queue q),
       length-append (write_list write_row q.front) (write_list write_row q.buffer ++ write_list write_seg q.segments),
@@ -661,9 +669,3 @@ ledger_short p n ls x h s f r l =
       r.tail,
       segments_few sizes p n ls x h s f l,
     )
-  where
-    y : Ledger
-    y = x.ledger
-
-    q : Queue
-    q = x.ledger.queue

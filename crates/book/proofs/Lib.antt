@@ -21,3 +21,6 @@ mod Limits
 pub mod Laws
 pub mod Room
 pub mod Levels
+pub mod Work
+pub mod Left
+pub mod Live

@@ -1,5 +1,5 @@
--- For 2 to the 56 steps every content fits: its numbers are words, and pages are short.
-use Rattle.std.proofs.Common.{◌≡◌, ℕ, zero, suc, ◌+◌, ◌*◌, ◌/◌, ◌<◌, ◌≤◌, Bool, true, false, cond, ◌&&◌, T, eqb, ltb, leb, List, [], ◌∷◌, ◌++◌, length, take, drop, sym, refl, ap, ◌∙◌, subst, inl, inr, mul-le-mul, mul-suc, arith, ltb→lt, length-append, length-drop, length-take}
+-- Every content fits, for as many steps as the book reaches: a box can hold its numbers, and pages are short.
+use Rattle.std.proofs.Common.{◌≡◌, ℕ, zero, suc, ◌+◌, ◌*◌, ◌/◌, ◌<◌, ◌≤◌, Bool, true, false, cond, ◌&&◌, T, eqb, ltb, leb, List, [], ◌∷◌, ◌++◌, length, take, drop, sym, refl, ap, ◌∙◌, subst, inl, inr, mul-le-mul_right, mul-suc, arith, ltb→lt, length-append, length-drop, length-take}
 use mathlib.Core.List.{Memᴰ}
 use Rattle.std.proofs.lemmas.Bool.Decides.{nat_tests}
 use Rattle.streams.specs.Meaning.{Event, Entry, Ev, Still, time_of, Stage, Plan, top, later, latest, in_time, word}
@@ -10,11 +10,11 @@ use Rattle.book.specs.Held.{Held}
 use Rattle.book.specs.Flow.{how_of, row_of}
 use Rattle.book.specs.Due.{Sizes, SizesOk, Sound, Step, Spill, Pack, Lower, Sift, Emit, Unpack, Open, Done, pack_many, do', take', at_level, below_level, shows}
 use Rattle.book.specs.Ledger.{LogBox, let_go, Taken, taken_of, Ledger, watermark, has_room, take_events, new_events, is_old, Task, Publish, Tidy, Rest, Want, wanted, OutWrite}
-use Rattle.book.specs.Words.{write_all, write_list, write_event, write_row, write_seg, write_taken, write_queue, write_ledger, write_page, write_out, AreWords, Filled}
+use Rattle.book.specs.Words.{write_all, write_list, write_event, write_row, write_seg, write_taken, write_queue, write_ledger, write_page, write_out, wide, Below, AreNumbers, Filled}
 use Rattle.book.specs.Book.{Book, empty_book, TakenOf, LogsRight, taken_events, SoundBook, PlanFine, put_all, put_batch, take_into, turn_of, after_turn, HeldOnce, log_of}
 use Rattle.book.specs.Numbers.{Among}
 use Rattle.book.specs.Interface.{Tag}
-use Rattle.book.specs.Limits.{Limits}
+use Rattle.book.specs.Limits.{Limits, longest}
 use Rattle.book.specs.Small.{KeyFit, RowsFit, EventFit, EventsFit, SegsFit, PageFit, WritesFit, QueueFit, StagesFit, EntriesFit, LogsFit, total, Fits, SizesSmall, PlanSmall}
 use Rattle.book.proofs.Numbers.{step_numbers}
 use Rattle.book.proofs.Deep.{lows_few, heads_few}
@@ -53,7 +53,7 @@ entries_of : (es : List Entry) → ((e : Entry) → Memᴰ e es → T (entry_ok 
 entries_of [] h = tt
 entries_of (e ∷ es) h = (h e (Memᴰ.head refl), entries_of es (λ x m. h x (Memᴰ.tail m)))
 
-logs_fit_at : (l : ℕ) (ls : List (List Entry)) → LogsFit ls → EntriesFit (log_of l ls)
+pub logs_fit_at : (l : ℕ) (ls : List (List Entry)) → LogsFit ls → EntriesFit (log_of l ls)
 unfolding log_of
 logs_fit_at zero [] f = tt
 logs_fit_at (suc l) [] f = tt
@@ -68,7 +68,7 @@ and_right : (a b : Bool) → T (a && b) → T b
 and_right true b h = h
 and_right false b h = absurd h
 
-event_ok : (e : Event) → T (entry_ok (Ev e)) → EventFit 0 e
+pub event_ok : (e : Event) → T (entry_ok (Ev e)) → EventFit 0 e
 unfolding entry_ok
 event_ok e h = (
   omega (arith, ltb→lt e.time 4611686018427387904 (and_left (small e.time) (ltb e.key top) (and_left (small e.time && ltb e.key top) (ltb e.value top) h))),
@@ -76,17 +76,17 @@ event_ok e h = (
   ltb→lt e.value top (and_right (small e.time && ltb e.key top) (ltb e.value top) h),
 )
 
-time_ok : (e : Entry) → T (entry_ok e) → time_of e < 4611686018427387904
+pub time_ok : (e : Entry) → T (entry_ok e) → time_of e < 4611686018427387904
 unfolding entry_ok time_of
 time_ok (Ev e) h = ltb→lt e.time 4611686018427387904 (and_left (small e.time) (ltb e.key top) (and_left (small e.time && ltb e.key top) (ltb e.value top) h))
 time_ok (Still t) h = ltb→lt t 4611686018427387904 h
 
-latest_fits : (m : ℕ) (es : List Entry) → m < 4611686018427387904 → EntriesFit es → latest m es < 4611686018427387904
+pub latest_fits : (m : ℕ) (es : List Entry) → m < 4611686018427387904 → EntriesFit es → latest m es < 4611686018427387904
 unfolding latest
 latest_fits m [] h f = h
 latest_fits m (e ∷ es) h f = latest_fits (later m (time_of e)) es (let k : time_of e < 4611686018427387904 = time_ok e f.0 in grind (arith, nat_tests)) f.1
 
-in_time_fits : (late m : ℕ) (es : List Entry) → EntriesFit es → EventsFit 0 (in_time late m es) × (length (in_time late m es) ≤ length es)
+pub in_time_fits : (late m : ℕ) (es : List Entry) → EntriesFit es → EventsFit 0 (in_time late m es) × (length (in_time late m es) ≤ length es)
 unfolding in_time
 in_time_fits late m [] f = (tt, omega arith)
 in_time_fits late m (Ev e ∷ es) f = go (ltb (e.time + late) m) (in_time_fits late m es f.1) (in_time_fits late (later m e.time) es f.1)
@@ -96,7 +96,7 @@ in_time_fits late m (Ev e ∷ es) f = go (ltb (e.time + late) m) (in_time_fits l
     go false i j = ((event_ok e f.0, j.0), omega (arith, j.1))
 in_time_fits late m (Still t ∷ es) f = let i : EventsFit 0 (in_time late (later m t) es) × (length (in_time late (later m t) es) ≤ length es) = in_time_fits late (later m t) es f.1 in (i.0, omega (arith, i.1))
 
-events_drop : (s n : ℕ) (es : List Event) → EventsFit s es → EventsFit s (drop n es)
+pub events_drop : (s n : ℕ) (es : List Event) → EventsFit s es → EventsFit s (drop n es)
 events_drop s zero es h = h
 events_drop s (suc n) [] h = tt
 events_drop s (suc n) (e ∷ es) h = events_drop s n es h.1
@@ -193,30 +193,30 @@ among_fits z c [] w h a = absurd a
 among_fits z c (v ∷ vs) w h (inl e) = subst (λ (x : Write). PageFit z c x.content × Filled x.content) (sym e) (h.0, h.1)
 among_fits z c (v ∷ vs) w h (inr a) = among_fits z c vs w h.2 a
 
--- WORDS
-words_append : (xs ys : List ℕ) → AreWords xs → AreWords ys → AreWords (xs ++ ys)
-words_append [] ys h k = k
-words_append (x ∷ xs) ys h k = (h.0, words_append xs ys h.1 k)
+-- NUMBERS, of any width from a word on
+pub below_append : (t : ℕ) (xs ys : List ℕ) → Below t xs → Below t ys → Below t (xs ++ ys)
+below_append t [] ys h k = k
+below_append t (x ∷ xs) ys h k = (h.0, below_append t xs ys h.1 k)
 
-events_words : (es : List Event) → EventsFit 8 es → AreWords (write_all write_event es)
+pub events_below : (t : ℕ) → top ≤ t → (es : List Event) → EventsFit 8 es → Below t (write_all write_event es)
 unfolding write_all
-events_words [] h = tt
-events_words (e ∷ es) h = (omega (arith, h.0.0), (h.0.1, (h.0.2, events_words es h.1)))
+events_below t w [] h = tt
+events_below t w (e ∷ es) h = (omega (arith, w, h.0.0), (omega (arith, w, h.0.1), (omega (arith, w, h.0.2), events_below t w es h.1)))
 
-rows_words : (rs : List Row) → RowsFit rs → AreWords (write_all write_row rs)
+rows_below : (t : ℕ) → top ≤ t → (rs : List Row) → RowsFit rs → Below t (write_all write_row rs)
 unfolding write_all
-rows_words [] h = tt
-rows_words (r ∷ rs) h = (omega (arith, h.0.0, h.0.1), (omega (arith, h.0.0), (h.0.2, (h.1, rows_words rs h.2))))
+rows_below t w [] h = tt
+rows_below t w (r ∷ rs) h = (omega (arith, w, h.0.0, h.0.1), (omega (arith, w, h.0.0), (omega (arith, w, h.0.2), (omega (arith, w, h.1), rows_below t w rs h.2))))
 
-segs_words : (c : ℕ) (ss : List Seg) → c < top → SegsFit c ss → AreWords (write_all write_seg ss)
+segs_below : (t : ℕ) → top ≤ t → (c : ℕ) (ss : List Seg) → c < t → SegsFit c ss → Below t (write_all write_seg ss)
 unfolding write_all
-segs_words c [] l h = tt
-segs_words c (s ∷ ss) l h = (omega (arith, h.0.0.0, h.0.0.1), (omega (arith, h.0.0.0), (h.0.0.2, (omega (arith, l, h.0.1), (omega (arith, l, h.0.2), (omega (arith, l, h.0.3), segs_words c ss l h.1))))))
+segs_below t w c [] l h = tt
+segs_below t w c (s ∷ ss) l h = (omega (arith, w, h.0.0.0, h.0.0.1), (omega (arith, w, h.0.0.0), (omega (arith, w, h.0.0.2), (omega (arith, l, h.0.1), (omega (arith, l, h.0.2), (omega (arith, l, h.0.3), segs_below t w c ss l h.1))))))
 
-page_words' : (z : Sizes) (c : ℕ) (x : Page) → SizesSmall z → c < top → PageFit z c x → AreWords (write_page x)
-page_words' z c Blank s l h = tt
-page_words' z c (RowPage below rs) s l h = (omega arith, (omega (arith, l, h.0), (omega (arith, h.2, s.rows), rows_words rs h.1)))
-page_words' z c (IndexPage ss) s l h = (omega arith, (omega (arith, h.1, s.segments), segs_words c ss l h.0))
+pub page_below : (t : ℕ) → top ≤ t → (z : Sizes) (c : ℕ) (x : Page) → SizesSmall z → c < t → PageFit z c x → Below t (write_page x)
+page_below t w z c Blank s l h = tt
+page_below t w z c (RowPage below rs) s l h = (omega (arith, w), (omega (arith, l, h.0), (omega (arith, w, h.2, s.rows), rows_below t w rs h.1)))
+page_below t w z c (IndexPage ss) s l h = (omega (arith, w), (omega (arith, w, h.1, s.segments), segs_below t w c ss l h.0))
 
 pub rows_long : (rs : List Row) → length (write_all write_row rs) ≡ 4 * length rs
 unfolding write_all
@@ -233,18 +233,18 @@ unfolding write_all
 events_long [] = refl
 events_long (e ∷ es) = omega (arith, events_long es)
 
-page_short' : (z : Sizes) (c : ℕ) (x : Page) → SizesSmall z → PageFit z c x → 8 * length (write_page x) ≤ 1048576
+page_short' : (z : Sizes) (c : ℕ) (x : Page) → SizesSmall z → PageFit z c x → 8 + 32 * length (write_page x) ≤ 1048576
 page_short' z c Blank s h = omega arith
 page_short' z c (RowPage below rs) s h = omega (arith, rows_long rs, h.2, s.rows)
 page_short' z c (IndexPage ss) s h = omega (arith, segs_long ss, h.1, s.segments)
 
 -- THE LEDGER
-takens_words : (late : ℕ) (f : ℕ → LogBox) (k : ℕ) (ls : List (List Entry)) (ts : List Taken) (m : ℕ) → m ≤ 72057594037927936 → total ls ≤ 8 * m → LogsFit ls → LogsRight late f k ls ts → AreWords (write_all write_taken ts)
+takens_below : (u : ℕ) → top ≤ u → (late : ℕ) (f : ℕ → LogBox) (k : ℕ) (ls : List (List Entry)) (ts : List Taken) → total ls < u → LogsFit ls → LogsRight late f k ls ts → Below u (write_all write_taken ts)
 unfolding write_all
-takens_words late f k [] [] m h t l r = tt
-takens_words late f k [] (y ∷ ts) m h t l r = absurd r
-takens_words late f k (x ∷ ls) [] m h t l r = absurd r
-takens_words late f k (x ∷ ls) (y ∷ ts) m h t l r = (omega (arith, h, t, w.some, (in_time_fits late 0 x l.0).1), (omega (arith, w.latest, latest_fits 0 w.seen (omega arith) (entries_left w.seen w.rest (subst EntriesFit w.is l.0))), takens_words late f (suc k) ls ts m h (omega (arith, t)) l.1 r.1))
+takens_below u h late f k [] [] t l r = tt
+takens_below u h late f k [] (y ∷ ts) t l r = absurd r
+takens_below u h late f k (x ∷ ls) [] t l r = absurd r
+takens_below u h late f k (x ∷ ls) (y ∷ ts) t l r = (omega (arith, h, t, w.some, (in_time_fits late 0 x l.0).1), (omega (arith, h, w.latest, latest_fits 0 w.seen (omega arith) (entries_left w.seen w.rest (subst EntriesFit w.is l.0))), takens_below u h late f (suc k) ls ts (omega (arith, t)) l.1 r.1))
   where
     w : TakenOf late x y
     w = r.0.taken
@@ -261,16 +261,17 @@ queue_counts sts m es f q os s = (
   omega (arith, ap (λ (x : Queue). length x.segments) s.is, s.few, heads_few Rattle.book.specs.Held.Free s.held.segs s.order.segs, lows_few (how_of sts) s.held s.order s.alive),
 )
 
-pub ledger_fits : (z : Sizes) (p : Plan) (m : ℕ) (ls : List (List Entry)) (x : Book) → SizesSmall z → m ≤ 72057594037927936 → SoundBook z p ls x → Fits z m ls x → AreWords (write_ledger x.ledger)
-ledger_fits z p m ls x sz h s f = (
+-- the ledger's numbers are below any limit that is a word's or more, and far enough above the steps
+pub ledger_below : (t : ℕ) → top ≤ t → (z : Sizes) (p : Plan) (m : ℕ) (ls : List (List Entry)) (x : Book) → SizesSmall z → 128 * m + 1000 < t → SoundBook z p ls x → Fits z m ls x → Below t (write_ledger x.ledger)
+ledger_below t w z p m ls x sz h s f = (
   omega (arith, f.outs, h),
-  words_append (write_list write_taken y.logs) (write_list write_event y.tail ++ write_queue y.queue) (omega (arith, f.count, logs_long p.late x.log 0 ls y.logs s.logs), takens_words p.late x.log 0 ls y.logs m h f.many f.entries s.logs)
-      (words_append (write_list write_event y.tail) (write_queue y.queue) (omega (arith, f.long, most), events_words y.tail f.tail) (
+  below_append t (write_list write_taken y.logs) (write_list write_event y.tail ++ write_queue y.queue) (omega (arith, w, f.count, logs_long p.late x.log 0 ls y.logs s.logs), takens_below t w p.late x.log 0 ls y.logs (omega (arith, f.many, h)) f.entries s.logs)
+      (below_append t (write_list write_event y.tail) (write_queue y.queue) (omega (arith, f.long, most, h), events_below t w y.tail f.tail) (
         omega (arith, f.queue.source, h),
         (
           omega (arith, f.queue.next, h),
-          words_append (write_list write_row q.front) (write_list write_row q.buffer ++ write_list write_seg q.segments) (omega (arith, counts.0, e, h), rows_words q.front f.queue.front)
-              (words_append (write_list write_row q.buffer) (write_list write_seg q.segments) (omega (arith, counts.1, e, h), rows_words q.buffer f.queue.buffer) (omega (arith, counts.2, e, h), segs_words (4 * m + 4) q.segments (omega (arith, h)) f.queue.segments)),
+          below_append t (write_list write_row q.front) (write_list write_row q.buffer ++ write_list write_seg q.segments) (omega (arith, counts.0, e, h), rows_below t w q.front f.queue.front)
+              (below_append t (write_list write_row q.buffer) (write_list write_seg q.segments) (omega (arith, counts.1, e, h), rows_below t w q.buffer f.queue.buffer) (omega (arith, counts.2, e, h), segs_below t w (4 * m + 4) q.segments (omega (arith, h)) f.queue.segments)),
         ),
       )),
 )
@@ -281,8 +282,8 @@ ledger_fits z p m ls x sz h s f = (
     q : Queue
     q = x.ledger.queue
 
-    most : z.emits * m ≤ 128 * 72057594037927936
-    most = mul-le-mul sz.emits h
+    most : z.emits * m ≤ 128 * m
+    most = mul-le-mul_right m sz.emits
 
     e : length (taken_events p.late ls y.logs) ≤ 8 * m
     e = omega (arith, taken_total p.late ls y.logs f.entries, f.many)
@@ -373,7 +374,7 @@ fills z p n ls x (Tidy step) ps f =
 once_fits : (late : ℕ) (es : List Entry) (b : LogBox) (t : Taken) → EntriesFit es → HeldOnce late es b → EventsFit 0 (new_events b t)
 once_fits late es b t f h = events_drop 0 (Rattle.streams.specs.Meaning.less_by b.base t.taken) b.events (subst (EventsFit 0) (sym h.holds.events) (events_drop 0 b.base (in_time late 0 h.seen) (in_time_fits late 0 h.seen (entries_left h.seen h.rest (subst EntriesFit h.is f))).0))
 
-pub limits : (z : Sizes) → SizesOk z → SizesSmall z → (p : Plan) → PlanFine p → PlanSmall p → (logs : ℕ) → logs ≤ 256 → Limits z p logs 72057594037927936 (Fits z)
+pub limits : (z : Sizes) → SizesOk z → SizesSmall z → (p : Plan) → PlanFine p → PlanSmall p → (logs : ℕ) → logs ≤ 256 → Limits z p logs longest (Fits z)
 limits z zo sz p fine ps logs hl =
     record {
       starts = starts;
@@ -381,7 +382,7 @@ limits z zo sz p fine ps logs hl =
       batch = batch;
       take = takes;
       turn = λ {n} {ls} {x} k h s f w. (fills z p n ls x k ps f).fits;
-      ledger_words = λ {n} {ls} {x} k h s f w. ledger_fits z p (suc n) ls (after_turn (turn_of z p k x) x) sz (omega (arith, h)) (sound_turn z zo p fine ls x k s w) (fills z p n ls x k ps f).fits;
+      ledger_words = λ {n} {ls} {x} k h s f w. ledger_below wide (omega arith) z p (suc n) ls (after_turn (turn_of z p k x) x) sz (omega (arith, h)) (sound_turn z zo p fine ls x k s w) (fills z p n ls x k ps f).fits;
       page_words = page_words;
       out_words = out_words;
       page_short = page_short;
@@ -391,25 +392,25 @@ limits z zo sz p fine ps logs hl =
     starts : Fits z 0 (empties logs) (empty_book logs)
     starts = let e : LogsFit (empties logs) × (total (empties logs) ≡ 0) × (length (empties logs) ≡ logs) = empties_fit logs in record { entries = e.0; count = omega (arith, e.2, hl); many = omega (arith, e.1); queue = record { front = tt; buffer = tt; segments = tt; source = omega arith; next = omega arith }; pages = λ k. tt; outs = omega arith; tail = tt; long = omega arith }
 
-    batch : {n : ℕ} {ls : List (List Entry)} {x : Book} (l floor i c s : ℕ) (es : List Entry) → n < 72057594037927936 → SoundBook z p ls x → Fits z n ls x → l < logs → floor ≤ (taken_of l x.ledger.logs).taken → Tag n i c s → ((e : Entry) → Memᴰ e es → T (entry_ok e)) → length es ≤ 8 →
+    batch : {n : ℕ} {ls : List (List Entry)} {x : Book} (l floor i c s : ℕ) (es : List Entry) → n < longest → SoundBook z p ls x → Fits z n ls x → l < logs → floor ≤ (taken_of l x.ledger.logs).taken → Tag n i c s → ((e : Entry) → Memᴰ e es → T (entry_ok e)) → length es ≤ 8 →
         length (let_go floor (x.log l)).events + length es ≤ z.log → Fits z (suc n) (put_all l es ls) (put_batch p l floor i (record { life = c; serial = s }) es x)
     batch {n} {ls} {x} l floor i c s es h so f hx hf tg ok few room =
         let e : LogsFit (put_all l es ls) × (total (put_all l es ls) ≤ total ls + length es) × (length (put_all l es ls) ≡ length ls) = puts_fit l es ls (entries_of es ok) f.entries in
         let g : Fits z (suc n) ls x = fits_later z n ls x f in
         record { entries = e.0; count = omega (arith, e.2, f.count); many = omega (arith, e.1, f.many, few); queue = g.queue; pages = g.pages; outs = g.outs; tail = g.tail; long = g.long }
 
-    takes : {n : ℕ} {ls : List (List Entry)} {x : Book} (l : ℕ) (b : LogBox) → n < 72057594037927936 → SoundBook z p ls x → Fits z n ls x → wanted z p.late x.ledger ≡ Rest → l < logs → HeldOnce p.late (log_of l ls) b → is_old l b x.ledger ≡ false → Fits z n ls (take_into z p l b x)
+    takes : {n : ℕ} {ls : List (List Entry)} {x : Book} (l : ℕ) (b : LogBox) → n < longest → SoundBook z p ls x → Fits z n ls x → wanted z p.late x.ledger ≡ Rest → l < logs → HeldOnce p.late (log_of l ls) b → is_old l b x.ledger ≡ false → Fits z n ls (take_into z p l b x)
     takes {n} {ls} {x} l b h so f w hx o old =
         record { entries = f.entries; count = f.count; many = f.many; queue = takes_fit z p.stages (4 * n + 4) (new_events b (taken_of l x.ledger.logs)) (taken_of l x.ledger.logs).taken x.ledger.queue ps.stages (once_fits p.late (log_of l ls) b (taken_of l x.ledger.logs) (logs_fit_at l ls f.entries) o) f.queue; pages = f.pages; outs = f.outs; tail = f.tail; long = f.long }
 
-    page_words : {n : ℕ} {ls : List (List Entry)} {x : Book} (k : Task) (w : Write) → n < 72057594037927936 → SoundBook z p ls x → Fits z n ls x → wanted z p.late x.ledger ≡ Want k → Among w (turn_of z p k x).rows → AreWords (write_page w.content) × Filled w.content
-    page_words {n} {ls} {x} k w h so f wt a = let g : PageFit z (4 * suc n + 4) w.content × Filled w.content = among_fits z (4 * suc n + 4) (turn_of z p k x).rows w (fills z p n ls x k ps f).rows a in (page_words' z (4 * suc n + 4) w.content sz (omega (arith, h)) g.0, g.1)
+    page_words : {n : ℕ} {ls : List (List Entry)} {x : Book} (k : Task) (w : Write) → n < longest → SoundBook z p ls x → Fits z n ls x → wanted z p.late x.ledger ≡ Want k → Among w (turn_of z p k x).rows → AreNumbers (write_page w.content) × Filled w.content
+    page_words {n} {ls} {x} k w h so f wt a = let g : PageFit z (4 * suc n + 4) w.content × Filled w.content = among_fits z (4 * suc n + 4) (turn_of z p k x).rows w (fills z p n ls x k ps f).rows a in (page_below wide (omega arith) z (4 * suc n + 4) w.content sz (omega (arith, h)) g.0, g.1)
 
-    out_words : {n : ℕ} {ls : List (List Entry)} {x : Book} (k : Task) (w : OutWrite) → n < 72057594037927936 → SoundBook z p ls x → Fits z n ls x → wanted z p.late x.ledger ≡ Want k → Among w (turn_of z p k x).outs → AreWords (write_out w.events)
-    out_words {n} {ls} {x} k w h so f wt a = let g : EventsFit 8 w.events × (length w.events ≤ z.outs) = (fills z p n ls x k ps f).outs w a in (omega (arith, g.1, sz.outs), events_words w.events g.0)
+    out_words : {n : ℕ} {ls : List (List Entry)} {x : Book} (k : Task) (w : OutWrite) → n < longest → SoundBook z p ls x → Fits z n ls x → wanted z p.late x.ledger ≡ Want k → Among w (turn_of z p k x).outs → AreNumbers (write_out w.events)
+    out_words {n} {ls} {x} k w h so f wt a = let g : EventsFit 8 w.events × (length w.events ≤ z.outs) = (fills z p n ls x k ps f).outs w a in (omega (arith, g.1, sz.outs), events_below wide (omega arith) w.events g.0)
 
-    page_short : {n : ℕ} {ls : List (List Entry)} {x : Book} (k : Task) (w : Write) → SoundBook z p ls x → Fits z n ls x → wanted z p.late x.ledger ≡ Want k → Among w (turn_of z p k x).rows → 8 * length (write_page w.content) ≤ 1048576
+    page_short : {n : ℕ} {ls : List (List Entry)} {x : Book} (k : Task) (w : Write) → SoundBook z p ls x → Fits z n ls x → wanted z p.late x.ledger ≡ Want k → Among w (turn_of z p k x).rows → 8 + 32 * length (write_page w.content) ≤ 1048576
     page_short {n} {ls} {x} k w so f wt a = page_short' z (4 * suc n + 4) w.content sz (among_fits z (4 * suc n + 4) (turn_of z p k x).rows w (fills z p n ls x k ps f).rows a).0
 
-    out_short : {n : ℕ} {ls : List (List Entry)} {x : Book} (k : Task) (w : OutWrite) → SoundBook z p ls x → Fits z n ls x → wanted z p.late x.ledger ≡ Want k → Among w (turn_of z p k x).outs → 8 * length (write_out w.events) ≤ 1048576
+    out_short : {n : ℕ} {ls : List (List Entry)} {x : Book} (k : Task) (w : OutWrite) → SoundBook z p ls x → Fits z n ls x → wanted z p.late x.ledger ≡ Want k → Among w (turn_of z p k x).outs → 8 + 32 * length (write_out w.events) ≤ 1048576
     out_short {n} {ls} {x} k w so f wt a = let g : EventsFit 8 w.events × (length w.events ≤ z.outs) = (fills z p n ls x k ps f).outs w a in omega (arith, events_long w.events, g.1, sz.outs)

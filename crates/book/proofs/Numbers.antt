@@ -274,7 +274,7 @@ out_numbered n (w ∷ ws) f m h l = go (ne_eqb m w.number (λ (e : m ≡ w.numbe
     go : eqb m w.number ≡ false → out_written ws f m ≡ f m → cond (eqb m w.number) w.events (out_written ws f m) ≡ f m
     go e i = rw e i
 
-turn_logs : (z : Sizes) (p : Plan) (k : Task) (y : Book) → (turn_of z p k y).ledger.logs ≡ y.ledger.logs
+pub turn_logs : (z : Sizes) (p : Plan) (k : Task) (y : Book) → (turn_of z p k y).ledger.logs ≡ y.ledger.logs
 turn_logs z p Publish y = refl
 turn_logs z p (Tidy step) y = refl
 

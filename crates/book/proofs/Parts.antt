@@ -15,7 +15,7 @@ drop_append zero xs ys = let e : 0 ≡ 0 - length xs = omega arith in ap (λ (k 
 drop_append (suc n) [] ys = let e : suc n ≡ suc n - 0 = omega arith in ap (λ (k : ℕ). drop_of k ys) e
 drop_append (suc n) (x ∷ xs) ys = drop_append n xs ys ∙ ap (λ (k : ℕ). drop_of n xs ++ drop_of k ys) (omega arith)
 
-length_drop_of : (n : ℕ) (xs : List Event) → length (drop_of n xs) ≡ length xs - n
+pub length_drop_of : (n : ℕ) (xs : List Event) → length (drop_of n xs) ≡ length xs - n
 unfolding drop_of
 length_drop_of zero xs = omega arith
 length_drop_of (suc n) [] = omega arith

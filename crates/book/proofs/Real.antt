@@ -2,16 +2,17 @@
 use Rattle.std.proofs.Common.{◌≡◌, ℕ, zero, suc, ◌+◌, ◌*◌, ◌/◌, ◌%◌, ◌<◌, ◌≤◌, Bool, true, false, cond, ◌&&◌, eqb, ltb, ◌⊎◌, List, [], ◌∷◌, ◌++◌, length, replicate, sym, refl, ap, ◌∙◌, subst, inl, inr, arith}
 use mathlib.Core.List.{Memᴰ}
 use Rattle.std.proofs.lemmas.Bool.{ltb-true, lt-ltb, eqb-true, eqb-false, and_parts}
-use Rattle.streams.specs.Meaning.{Event, Entry, Ev, Still, top}
+use Rattle.streams.specs.Meaning.{Event, Entry, Ev, Still}
 use Rattle.streams.specs.Hands.{all_bytes}
 use Rattle.book.specs.Queue.{Link, nil, page, Pages, Write, written, Queue, head_at}
 use Rattle.book.specs.Held.{Paged, Segs, none, plain, packed, Held, head_of, heads, queue_of, ChainIn, SegsIn, HeldIn}
 use Rattle.book.specs.Due.{Step, Spill, Pack, Lower, Sift, Emit, Unpack, Open, shows, index_of, Sound}
 use Rattle.book.specs.Ledger.{Served, nobody, LogBox, passed, came, entered, entered_all, let_go, set_at, batched, Taken, taken_of, Ledger, Task, Publish, Tidy, Wanted, Rest, Want, shows_of, OutWrite, out_written, row_box, out_box, log_box}
-use Rattle.book.specs.Words.{just, bytes_of, AreWords, write_page, write_out}
+use Rattle.book.specs.Words.{just, wide, words_bytes, are_words, all_fours, words_for, bytes_of, AreWords, AreNumbers, write_page, write_out}
 use Rattle.book.specs.Numbers.{Numbered, OutNumbered, Among}
 use Rattle.book.specs.Interface.{lacks, gives, with_page, Filling, IsPage}
-use Rattle.book.specs.Real.{served_of, are_words, floor_of, writes, raised, calls_for, calls_of, row_fillings, out_fillings}
+use Rattle.book.specs.Real.{served_of, are_numbers, floor_of, writes, raised, calls_for, calls_of, row_fillings, out_fillings}
+use Rattle.book.proofs.Words.{all_words}
 
 pub just_same : {A : Type 0} (x y : A) → just x ≡ just y → x ≡ y
 just_same x y e = cc
@@ -97,37 +98,63 @@ find_out n (w ∷ ws) f k h a b = go (eqb k w.number) refl (find_out (suc n) ws 
     go false e ih = let ne : k ≡ n → ⊥ = λ (q : k ≡ n). eqb-false k w.number e (q ∙ sym h.0) in let r : (v : OutWrite) × Among v ws × (v.number ≡ k) × (out_written ws f k ≡ v.events) = ih (omega arith) (omega arith) in (r.0, inr r.1, r.2, rw e r.3)
 
 -- BYTES are bytes, eight to a word
-pub bytes_long : (ws : List ℕ) → length (bytes_of ws) ≡ 8 * length ws
-unfolding bytes_of
-bytes_long [] = refl
-bytes_long (w ∷ ws) = omega (arith, bytes_long ws)
+words_long : (ws : List ℕ) → length (words_bytes ws) ≡ 8 * length ws
+unfolding words_bytes
+words_long [] = refl
+words_long (w ∷ ws) = omega (arith, words_long ws)
 
-pub bytes_bytes : (ws : List ℕ) → all_bytes (bytes_of ws) ≡ true
-unfolding bytes_of all_bytes
-bytes_bytes [] = refl
-bytes_bytes (w ∷ ws) = all (w / 72057594037927936) (w / 281474976710656) (w / 1099511627776) (w / 4294967296) (w / 16777216) (w / 65536) (w / 256) w (bytes_bytes ws)
+words_are_bytes : (ws : List ℕ) → all_bytes (words_bytes ws) ≡ true
+unfolding words_bytes all_bytes
+words_are_bytes [] = refl
+words_are_bytes (w ∷ ws) = all (w / 72057594037927936) (w / 281474976710656) (w / 1099511627776) (w / 4294967296) (w / 16777216) (w / 65536) (w / 256) w (words_are_bytes ws)
   where
     one : (n : ℕ) → ltb (n % 256) 256 ≡ true
     one n = lt-ltb (n % 256) 256 (omega arith)
 
-    all : (a b c d e f g h : ℕ) → all_bytes (bytes_of ws) ≡ true → (ltb (a % 256) 256 && (ltb (b % 256) 256 && (ltb (c % 256) 256 && (ltb (d % 256) 256 && (ltb (e % 256) 256 && (ltb (f % 256) 256 && (ltb (g % 256) 256 && (ltb (h % 256) 256 && all_bytes (bytes_of ws))))))))) ≡ true
+    all : (a b c d e f g h : ℕ) → all_bytes (words_bytes ws) ≡ true → (ltb (a % 256) 256 && (ltb (b % 256) 256 && (ltb (c % 256) 256 && (ltb (d % 256) 256 && (ltb (e % 256) 256 && (ltb (f % 256) 256 && (ltb (g % 256) 256 && (ltb (h % 256) 256 && all_bytes (words_bytes ws))))))))) ≡ true
     all a b c d e f g h i = rw (one a, one b, one c, one d, one e, one f, one g, one h) i
 
-pub words_all : (ws : List ℕ) → are_words ws ≡ true → AreWords ws
-unfolding are_words
-words_all [] e = tt
-words_all (w ∷ ws) e = let p : (ltb w top ≡ true) × (are_words ws ≡ true) = and_parts (ltb w top) (are_words ws) e in (ltb-true w top p.0, words_all ws p.1)
+fours_long : (ns : List ℕ) → length (all_fours ns) ≡ 4 * length ns
+unfolding all_fours
+fours_long [] = refl
+fours_long (n ∷ ns) = omega (arith, fours_long ns)
+
+-- a word each, or four
+pub bytes_most : (ns : List ℕ) → length (bytes_of ns) ≤ 8 + 32 * length ns
+bytes_most ns = go (are_words ns)
+  where
+    go : (b : Bool) → length (words_bytes (cond b (0 ∷ ns) (1 ∷ all_fours ns))) ≤ 8 + 32 * length ns
+    go true = omega (arith, words_long (0 ∷ ns))
+    go false = omega (arith, words_long (1 ∷ all_fours ns), fours_long ns)
+
+pub bytes_some : (ns : List ℕ) → 1 ≤ length (bytes_of ns)
+bytes_some ns = go (are_words ns)
+  where
+    go : (b : Bool) → 1 ≤ length (words_bytes (cond b (0 ∷ ns) (1 ∷ all_fours ns)))
+    go true = omega (arith, words_long (0 ∷ ns))
+    go false = omega (arith, words_long (1 ∷ all_fours ns))
+
+pub bytes_long : (ns : List ℕ) → AreWords ns → length (bytes_of ns) ≡ 8 + 8 * length ns
+bytes_long ns h = ap (λ (b : Bool). length (words_bytes (cond b (0 ∷ ns) (1 ∷ all_fours ns)))) (all_words ns h) ∙ words_long (0 ∷ ns) ∙ omega arith
+
+pub bytes_bytes : (ns : List ℕ) → all_bytes (bytes_of ns) ≡ true
+bytes_bytes ns = words_are_bytes (words_for ns)
+
+pub numbers_all : (ns : List ℕ) → are_numbers ns ≡ true → AreNumbers ns
+unfolding are_numbers
+numbers_all [] e = tt
+numbers_all (n ∷ ns) e = let p : (ltb n wide ≡ true) × (are_numbers ns ≡ true) = and_parts (ltb n wide) (are_numbers ns) e in (ltb-true n wide p.0, numbers_all ns p.1)
 
 lacks_gives : (A : Type 0) (bs : List ℕ) → lacks ≡ gives bs → A
 lacks_gives A bs e = absurd (let z : ◌≡◌ {A = ℕ} 0 1 = cc in omega arith)
 
 -- what was given was written
-pub given : (b : Bool) (ws bs : List ℕ) → writes b ws ≡ gives bs → (b ≡ true) × AreWords ws × (bs ≡ bytes_of ws)
-given b ws bs e = go (b && are_words ws) refl e
+pub given : (b : Bool) (ws bs : List ℕ) → writes b ws ≡ gives bs → (b ≡ true) × AreNumbers ws × (bs ≡ bytes_of ws)
+given b ws bs e = go (b && are_numbers ws) refl e
   where
-    go : (c : Bool) → (b && are_words ws) ≡ c → cond c (gives (bytes_of ws)) lacks ≡ gives bs → (b ≡ true) × AreWords ws × (bs ≡ bytes_of ws)
-    go true t d = let p : (b ≡ true) × (are_words ws ≡ true) = and_parts b (are_words ws) t in (p.0, words_all ws p.1, cc)
-    go false t d = lacks_gives ((b ≡ true) × AreWords ws × (bs ≡ bytes_of ws)) bs d
+    go : (c : Bool) → (b && are_numbers ws) ≡ c → cond c (gives (bytes_of ws)) lacks ≡ gives bs → (b ≡ true) × AreNumbers ws × (bs ≡ bytes_of ws)
+    go true t d = let p : (b ≡ true) × (are_numbers ws ≡ true) = and_parts b (are_numbers ws) t in (p.0, numbers_all ws p.1, cc)
+    go false t d = lacks_gives ((b ≡ true) × AreNumbers ws × (bs ≡ bytes_of ws)) bs d
 
 -- WHAT IS CALLED FOR
 calls_for_page : (l : Link) (b : ℕ) → calls_for l ≡ with_page b → (n : ℕ) × (l ≡ page n) × (b ≡ row_box n)

@@ -8,7 +8,7 @@ use Rattle.streams.specs.Hands.{Box, at, all_bytes}
 use Rattle.book.specs.Queue.{Link, nil, page, Page, Write, written, page_of, Blank}
 use Rattle.book.specs.Due.{Sizes, SizesOk}
 use Rattle.book.specs.Ledger.{Served, LogBox, empty_log, workers, let_go, batched, taken_of, Ledger, watermark, is_old, took, Task, Wanted, Rest, Want, wanted, shows_of, OutWrite, out_written, Turn, does, row_box, out_box, log_box}
-use Rattle.book.specs.Words.{Maybe, nothing, just, bytes_of, AreWords, write_log, write_ledger, write_page, write_out, page_in, out_in, Filled}
+use Rattle.book.specs.Words.{Maybe, nothing, just, bytes_of, AreNumbers, write_log, write_ledger, write_page, write_out, log_in, ledger_in, page_in, out_in, Filled}
 use Rattle.book.specs.Book.{Book, empty_book, LogRight, outs_of, came_out, SoundBook, PlanFine, set_log, put_all, put_batch, take_into, turn_of, after_turn, log_of, AllTaken}
 use Rattle.book.specs.Numbers.{Moves, Among, itself, takes, turn, Grows}
 use Rattle.book.specs.Interface.{gives, Calls, with_page, reply, Filling, Ops, IsPage, Now, Gathered, no_page, one_page, Tag, Stays, Laws}
@@ -21,28 +21,36 @@ use Rattle.book.proofs.Words.{reads_back}
 use Rattle.book.proofs.Parts.{drop_past, drop_append, first_append, first_of_more, outs_long, page_part}
 use Rattle.book.proofs.Book.{sound_first, sound_batch, sound_take, sound_turn, first_of_out, all_out, outs_same, logs_at}
 use Rattle.book.proofs.Numbers.{steps_move, always_grows, old_stays, among_numbers, among_outs, one_number, one_out}
-use Rattle.book.proofs.Real.{just_same, mem_among, among_mem, among_append, row_is_page, out_is_page, row_filling, out_filling, row_filling_of, out_filling_of, filled_row, filled_out, find_row, find_out, bytes_long, bytes_bytes, given, calls_page, calls_none, shown_below, served_set, served_other, batch_served, nobody_served, raised_under}
+use Rattle.book.proofs.Real.{just_same, mem_among, among_mem, among_append, row_is_page, out_is_page, row_filling, out_filling, row_filling_of, out_filling_of, filled_row, filled_out, find_row, find_out, bytes_most, bytes_some, bytes_bytes, given, calls_page, calls_none, shown_below, served_set, served_other, batch_served, nobody_served, raised_under}
 
 -- a box filled, and the others
-at_here : (b : ℕ) (x : Box) (f : ℕ → Box) → at b x f b ≡ x
+pub at_here : (b : ℕ) (x : Box) (f : ℕ → Box) → at b x f b ≡ x
 at_here b x f = rw (eq-eqb b b refl)
 
-at_other : (b c : ℕ) (x : Box) (f : ℕ → Box) → (c ≡ b → ⊥) → at b x f c ≡ f c
+pub at_other : (b c : ℕ) (x : Box) (f : ℕ → Box) → (c ≡ b → ⊥) → at b x f c ≡ f c
 at_other b c x f n = rw (ne_eqb c b n)
 
 -- what was written is read
-log_back : (b : LogBox) → length b.served ≡ workers → AreWords (write_log b) → log_or (bytes_of (write_log b)) ≡ just b
-unfolding log_or bytes_of
-log_back b o a = reads_back.0.back b o a
+log_or_in : (bs : List ℕ) → 1 ≤ length bs → log_or bs ≡ log_in bs
+unfolding log_or
+log_or_in [] h = absurd (omega arith)
+log_or_in (b ∷ bs) h = refl
+
+ledger_or_in : (n : ℕ) (bs : List ℕ) → 1 ≤ length bs → ledger_or n bs ≡ ledger_in bs
+unfolding ledger_or
+ledger_or_in n [] h = absurd (omega arith)
+ledger_or_in n (b ∷ bs) h = refl
+
+log_back : (b : LogBox) → length b.served ≡ workers → AreNumbers (write_log b) → log_or (bytes_of (write_log b)) ≡ just b
+log_back b o a = log_or_in (bytes_of (write_log b)) (bytes_some (write_log b)) ∙ reads_back.0.back b o a
 
 log_only : (bs : List ℕ) (b : LogBox) → log_or bs ≡ just b → length b.served ≡ workers
 unfolding log_or
 log_only [] b e = ap (λ (x : LogBox). length x.served) (sym (just_same empty_log b e))
 log_only (x ∷ bs) b e = (reads_back.0.only (x ∷ bs) b e).2
 
-ledger_back : (n : ℕ) (x : Ledger) → AreWords (write_ledger x) → ledger_or n (bytes_of (write_ledger x)) ≡ just x
-unfolding ledger_or bytes_of
-ledger_back n x a = reads_back.1.back x tt a
+pub ledger_back : (n : ℕ) (x : Ledger) → AreNumbers (write_ledger x) → ledger_or n (bytes_of (write_ledger x)) ≡ just x
+ledger_back n x a = ledger_or_in n (bytes_of (write_ledger x)) (bytes_some (write_ledger x)) ∙ reads_back.1.back x tt a
 
 module _ (z : Sizes) (zo : SizesOk z) (p : Plan) (fine : PlanFine p) (logs bound : ℕ) (Within : ℕ → List (List Entry) → Book → Type 0) (L : Limits z p logs bound Within) where
   abbrev Right : ℕ → List (List Entry) → (ℕ → Box) → Type 0
@@ -118,7 +126,7 @@ module _ (z : Sizes) (zo : SizesOk z) (p : Plan) (fine : PlanFine p) (logs bound
       spent b (y, e, g) = (now', o.is', page_on now now' b o.next o.pages (subst (λ (w : Ledger). Page' w b) (just_same y now (sym e ∙ o.is)) g))
 
   -- OF THE OPERATIONS, with the ledger read
-  due_is : (x : List ℕ) (y : Ledger) → ledger_or logs x ≡ just y → (real z p logs).due x ≡ calls_of (wanted z p.late y) y
+  pub due_is : (x : List ℕ) (y : Ledger) → ledger_or logs x ≡ just y → (real z p logs).due x ≡ calls_of (wanted z p.late y) y
   unfolding due_by
   due_is x y e = ap (due_by z p) e
 
@@ -126,15 +134,15 @@ module _ (z : Sizes) (zo : SizesOk z) (p : Plan) (fine : PlanFine p) (logs bound
   unfolding pages_by
   pages_are x shown y e = ap (pages_by z p shown) e
 
-  after_is : (x shown : List ℕ) (y : Ledger) → ledger_or logs x ≡ just y → (real z p logs).after x shown ≡ bytes_of (write_ledger (turn_for z p shown y).ledger)
+  pub after_is : (x shown : List ℕ) (y : Ledger) → ledger_or logs x ≡ just y → (real z p logs).after x shown ≡ bytes_of (write_ledger (turn_for z p shown y).ledger)
   unfolding after_by
   after_is x shown y e = ap (after_by z p shown x) e
 
   -- the step that is due, and the page that it shows
-  record Doing (n : ℕ) (ls : List (List Entry)) (f : ℕ → Box) (r : Right n ls f) (x : List ℕ) : Type 0 where
-    task : Task
-    want : wanted z p.late r.book.ledger ≡ Want task
-    is : turn_for z p x r.book.ledger ≡ turn_of z p task r.book
+  pub record Doing (n : ℕ) (ls : List (List Entry)) (f : ℕ → Box) (r : Right n ls f) (x : List ℕ) : Type 0 where
+    pub task : Task
+    pub want : wanted z p.late r.book.ledger ≡ Want task
+    pub is : turn_for z p x r.book.ledger ≡ turn_of z p task r.book
 
   doing_by : (n : ℕ) (ls : List (List Entry)) (f : ℕ → Box) (r : Right n ls f) (x : List ℕ) (w : Wanted) → wanted z p.late r.book.ledger ≡ w → Now f (calls_of w r.book.ledger) x → Doing n ls f r x
   unfolding calls_of turn_by turn_on
@@ -147,10 +155,10 @@ module _ (z : Sizes) (zo : SizesOk z) (p : Plan) (fine : PlanFine p) (logs bound
           ap (λ (g : Maybe Page). turn_on z p k (page m) g r.book.ledger)
           (ap page_in (sym u) ∙ (r.row m (shown_below p.stages (watermark p.late r.book.ledger.logs) (Rattle.book.specs.Book.taken_events p.late ls r.book.ledger.logs) r.book.row r.book.ledger (came_out r.book) k m r.sound.queue q)).1)
 
-  doing : (n : ℕ) (ls : List (List Entry)) (f : ℕ → Box) (r : Right n ls f) (x : List ℕ) → Now f ((real z p logs).due (f 0).bytes) x → Doing n ls f r x
+  pub doing : (n : ℕ) (ls : List (List Entry)) (f : ℕ → Box) (r : Right n ls f) (x : List ℕ) → Now f ((real z p logs).due (f 0).bytes) x → Doing n ls f r x
   doing n ls f r x h = doing_by n ls f r x (wanted z p.late r.book.ledger) refl (subst (λ (c : Calls). Now f c x) (due_is (f 0).bytes r.book.ledger r.ledger) h)
 
-  moves : (b : Book) (k : Task) → Moves b.ledger (turn_of z p k b)
+  pub moves : (b : Book) (k : Task) → Moves b.ledger (turn_of z p k b)
   moves b k = steps_move z p k (page_of b.row (shows_of k b.ledger)) b.ledger
 
   -- a page that is called for
@@ -175,7 +183,7 @@ module _ (z : Sizes) (zo : SizesOk z) (p : Plan) (fine : PlanFine p) (logs bound
   ledger_now : {n : ℕ} {ls : List (List Entry)} {f : ℕ → Box} → Right n ls f → Old f (f 0).bytes
   ledger_now {n} {ls} {f} r = record { old = r.book.ledger; now = r.book.ledger; reads = r.ledger; is = r.ledger; taken = λ l. omega arith; pages = omega arith; more = ([], sym (append-nil (came_in f r.book.ledger))) }
 
-  log_right : (n : ℕ) (ls : List (List Entry)) (f : ℕ → Box) (r : Right n ls f) (l : ℕ) → l < logs → LogRight p.late (log_of l ls) (taken_of l r.book.ledger.logs) (r.book.log l)
+  pub log_right : (n : ℕ) (ls : List (List Entry)) (f : ℕ → Box) (r : Right n ls f) (l : ℕ) → l < logs → LogRight p.late (log_of l ls) (taken_of l r.book.ledger.logs) (r.book.log l)
   log_right n ls f r l h = subst (λ (j : ℕ). LogRight p.late (log_of l ls) (taken_of l r.book.ledger.logs) (r.book.log j)) (omega arith) (logs_at p.late r.book.log 0 l ls r.book.ledger.logs (omega (arith, h, r.count)) r.sound.logs)
 
   log_now : {n : ℕ} {ls : List (List Entry)} {f : ℕ → Box} → Right n ls f → (l : ℕ) → OldLog ls f l (f (log_box l)).bytes
@@ -225,7 +233,7 @@ module _ (z : Sizes) (zo : SizesOk z) (p : Plan) (fine : PlanFine p) (logs bound
       go nothing h = absurd h
       go (just w) h = called_page (turn_for z p y w) a (called_of (turn_for z p y w) a h)
 
-  answer_tells : (from most : ℕ) (x : Ledger) (got : List Event) (b : ℕ) → answer_by z from most (just x) got ≡ Rattle.book.specs.Interface.page b → (from + length got < x.pages * z.outs) × (b ≡ out_box ((from + length got) / z.outs))
+  pub answer_tells : (from most : ℕ) (x : Ledger) (got : List Event) (b : ℕ) → answer_by z from most (just x) got ≡ Rattle.book.specs.Interface.page b → (from + length got < x.pages * z.outs) × (b ≡ out_box ((from + length got) / z.outs))
   unfolding answer_by
   answer_tells from most x got b e = go (ltb (length got) most && ltb (from + length got) (x.pages * z.outs)) refl e
     where
@@ -288,8 +296,8 @@ module _ (z : Sizes) (zo : SizesOk z) (p : Plan) (fine : PlanFine p) (logs bound
       let c : (k : Task) × (m : ℕ) × (wanted z p.late y ≡ Want k) × (shows_of k y ≡ page m) × (b ≡ row_box m) = calls_page (wanted z p.late y) y b (sym (due_is (f 0).bytes y r.ledger) ∙ e) in
       (y, r.ledger, inl (c.1, shown_below p.stages (watermark p.late y.logs) (Rattle.book.specs.Book.taken_events p.late ls y.logs) r.book.row y (came_out r.book) c.0 c.1 r.sound.queue c.3, c.4))
 
-  fits_box : (ws : List ℕ) → 8 * length ws ≤ 1048576 → T (leb (length (bytes_of ws)) 1048576 && all_bytes (bytes_of ws))
-  fits_box ws h = subst T (sym (and_from (leb (length (bytes_of ws)) 1048576) (all_bytes (bytes_of ws)) (le-leb (length (bytes_of ws)) 1048576 (omega (arith, h, bytes_long ws))) (bytes_bytes ws))) tt
+  fits_box : (ws : List ℕ) → 8 + 32 * length ws ≤ 1048576 → T (leb (length (bytes_of ws)) 1048576 && all_bytes (bytes_of ws))
+  fits_box ws h = subst T (sym (and_from (leb (length (bytes_of ws)) 1048576) (all_bytes (bytes_of ws)) (le-leb (length (bytes_of ws)) 1048576 (omega (arith, h, bytes_most ws))) (bytes_bytes ws))) tt
 
   not_spent : (f : ℕ → Box) (y : Ledger) (b : ℕ) → ledger_or logs (f 0).bytes ≡ just y → (Page' y b → ⊥) → Spent (f 0).bytes b → ⊥
   not_spent f y b e h (w, q, g) = h (subst (λ (v : Ledger). Page' v b) (just_same w y (sym q ∙ e)) g)
@@ -327,7 +335,7 @@ module _ (z : Sizes) (zo : SizesOk z) (p : Plan) (fine : PlanFine p) (logs bound
   added old bs l i c s fl es b e g =
       let tag : Served = record { life = c; serial = s } in
       let b' : LogBox = batched p.late (floor_of l fl) i tag es b in
-      let r : (leb (length (let_go (floor_of l fl) b).events + length es) z.log ≡ true) × AreWords (write_log b') × (bs ≡ bytes_of (write_log b')) = given (leb (length (let_go (floor_of l fl) b).events + length es) z.log) (write_log b') bs (sym (ap (adds_by z p.late (floor_of l fl) i tag es) e) ∙ g) in
+      let r : (leb (length (let_go (floor_of l fl) b).events + length es) z.log ≡ true) × AreNumbers (write_log b') × (bs ≡ bytes_of (write_log b')) = given (leb (length (let_go (floor_of l fl) b).events + length es) z.log) (write_log b') bs (sym (ap (adds_by z p.late (floor_of l fl) i tag es) e) ∙ g) in
       let n : length b.served ≡ workers = log_only old b e in
       record { reads = ap log_or r.2 ∙ log_back b' (ap length (batch_served p.late (floor_of l fl) i tag es b) ∙ served_long i tag b.served ∙ n) r.1; served = n; room = leb-true (length (let_go (floor_of l fl) b).events + length es) z.log r.0 }
 
@@ -586,7 +594,7 @@ module _ (z : Sizes) (zo : SizesOk z) (p : Plan) (fine : PlanFine p) (logs bound
       b : LogBox
       b = o.box
 
-      g : (not (is_old l b v.ledger) ≡ true) × AreWords (write_ledger (took z p.stages l b v.ledger)) × (y ≡ bytes_of (write_ledger (took z p.stages l b v.ledger)))
+      g : (not (is_old l b v.ledger) ≡ true) × AreNumbers (write_ledger (took z p.stages l b v.ledger)) × (y ≡ bytes_of (write_ledger (took z p.stages l b v.ledger)))
       g = given (not (is_old l b v.ledger)) (write_ledger (took z p.stages l b v.ledger)) y (sym (ap (λ (m : Maybe LogBox). take_by z p l m (ledger_or logs (f 0).bytes)) o.reads ∙ ap (take_by z p l (just b)) r.ledger) ∙ tk)
 
       new : is_old l b v.ledger ≡ false
@@ -601,10 +609,54 @@ module _ (z : Sizes) (zo : SizesOk z) (p : Plan) (fine : PlanFine p) (logs bound
       gr_next : (take_into z p l b v).ledger.queue.next ≡ v.ledger.queue.next
       gr_next = Rattle.book.proofs.Numbers.took_next z p.stages (Rattle.book.specs.Ledger.new_events b (taken_of l v.ledger.logs)) (taken_of l v.ledger.logs).taken v.ledger.queue
 
-  -- A STEP
+  -- A STEP, read back from the boxes with its pages filled
+  pub record Stepped (n : ℕ) (ls : List (List Entry)) (f : ℕ → Box) (r : Right n ls f) (x : List ℕ) (k : Task) : Type 0 where
+    pub reads : ledger_or logs (O.after (f 0).bytes x) ≡ just (turn_of z p k r.book).ledger
+    pub row : (j : ℕ) → r.book.ledger.queue.next ≤ j → j < (turn_of z p k r.book).ledger.queue.next → (1 ≤ (f (row_box j)).edition) × (page_in (f (row_box j)).bytes ≡ just (written (turn_of z p k r.book).rows r.book.row j))
+    pub out : (j : ℕ) → r.book.ledger.pages ≤ j → j < (turn_of z p k r.book).ledger.pages → (1 ≤ (f (out_box j)).edition) × (out_in (f (out_box j)).bytes ≡ just (out_written (turn_of z p k r.book).outs r.book.out j))
+
+  pub after_reads : (n : ℕ) (ls : List (List Entry)) (f : ℕ → Box) (r : Right n ls f) (x : List ℕ) → n < bound → (d : Doing n ls f r x) → ledger_or logs (O.after (f 0).bytes x) ≡ just (turn_of z p d.task r.book).ledger
+  after_reads n ls f r x hn d =
+      ap (ledger_or logs) (after_is (f 0).bytes x r.book.ledger r.ledger ∙ ap (λ (w : Turn). bytes_of (write_ledger w.ledger)) d.is) ∙ ledger_back logs (turn_of z p d.task r.book).ledger (L.ledger_words d.task hn r.sound r.within d.want)
+
+  pub stepped : (n : ℕ) (ls : List (List Entry)) (f : ℕ → Box) (r : Right n ls f) (x : List ℕ) → n < bound → (d : Doing n ls f r x) → ((a : Filling) → Memᴰ a (O.pages (f 0).bytes x) → (1 ≤ (f a.box).edition) × ((f a.box).bytes ≡ a.bytes)) → Stepped n ls f r x d.task
+  stepped n ls f r x hn d there = record { reads = after_reads n ls f r x hn d; row = row; out = out }
+    where
+      v : Book
+      v = r.book
+
+      k : Task
+      k = d.task
+
+      t : Turn
+      t = turn_of z p k v
+
+      mv : Moves v.ledger t
+      mv = moves v k
+
+      mem : (a : Filling) → Among a (row_fillings t.rows ++ out_fillings t.outs) → Memᴰ a (O.pages (f 0).bytes x)
+      mem a h = among_mem a (O.pages (f 0).bytes x) (subst (Among a) (sym (pages_are (f 0).bytes x v.ledger r.ledger ∙ ap (λ (w : Turn). row_fillings w.rows ++ out_fillings w.outs) d.is)) h)
+
+      row : (j : ℕ) → v.ledger.queue.next ≤ j → j < t.ledger.queue.next → (1 ≤ (f (row_box j)).edition) × (page_in (f (row_box j)).bytes ≡ just (written t.rows v.row j))
+      row j a b = go (find_row v.ledger.queue.next t.rows v.row j mv.rows a (omega (arith, b, mv.next)))
+        where
+          go : (w : Write) × Among w t.rows × (w.number ≡ j) × (written t.rows v.row j ≡ w.content) → (1 ≤ (f (row_box j)).edition) × (page_in (f (row_box j)).bytes ≡ just (written t.rows v.row j))
+          go (w, i, q, c) =
+              let h : (1 ≤ (f (row_box w.number)).edition) × ((f (row_box w.number)).bytes ≡ bytes_of (write_page w.content)) = there (row_filling w) (mem (row_filling w) (filled_row w t.rows (out_fillings t.outs) i)) in
+              let u : AreNumbers (write_page w.content) × Filled w.content = L.page_words k w hn r.sound r.within d.want i in
+              subst (λ (s : ℕ). (1 ≤ (f (row_box s)).edition) × (page_in (f (row_box s)).bytes ≡ just (written t.rows v.row j))) q (h.0, ap page_in h.1 ∙ reads_back.2.back w.content u.1 u.0 ∙ ap just (sym c))
+
+      out : (j : ℕ) → v.ledger.pages ≤ j → j < t.ledger.pages → (1 ≤ (f (out_box j)).edition) × (out_in (f (out_box j)).bytes ≡ just (out_written t.outs v.out j))
+      out j a b = go (find_out v.ledger.pages t.outs v.out j mv.outs a (omega (arith, b, mv.pages)))
+        where
+          go : (w : OutWrite) × Among w t.outs × (w.number ≡ j) × (out_written t.outs v.out j ≡ w.events) → (1 ≤ (f (out_box j)).edition) × (out_in (f (out_box j)).bytes ≡ just (out_written t.outs v.out j))
+          go (w, i, q, c) =
+              let h : (1 ≤ (f (out_box w.number)).edition) × ((f (out_box w.number)).bytes ≡ bytes_of (write_out w.events)) = there (out_filling w) (mem (out_filling w) (filled_out w t.rows t.outs i)) in
+              subst (λ (s : ℕ). (1 ≤ (f (out_box s)).edition) × (out_in (f (out_box s)).bytes ≡ just (out_written t.outs v.out j))) q (h.0, ap out_in h.1 ∙ reads_back.3.back w.events tt (L.out_words k w hn r.sound r.within d.want i) ∙ ap just (sym c))
+
   step_ok : {n : ℕ} {ls : List (List Entry)} {f : ℕ → Box} (e : ℕ) (x : List ℕ) → n < bound → Right n ls f → Now f (O.due (f 0).bytes) x → ((a : Filling) → Memᴰ a (O.pages (f 0).bytes x) → (1 ≤ (f a.box).edition) × ((f a.box).bytes ≡ a.bytes)) →
       Right (suc n) ls (at 0 (record { edition = e + 1; bytes = O.after (f 0).bytes x }) f) × Stays OldLedger OldLog Floor Spent ls f ls (at 0 (record { edition = e + 1; bytes = O.after (f 0).bytes x }) f) × ((a : Filling) → Memᴰ a (O.pages (f 0).bytes x) → Spent (O.after (f 0).bytes x) a.box)
-  step_ok {n} {ls} {f} e x hn r nw there = (both.0, both.1, λ a m. (y.ledger, reads, spent a (called n ls f r x d a m)))
+  step_ok {n} {ls} {f} e x hn r nw there = (both.0, both.1, λ a m. (y.ledger, s.reads, spent a (called n ls f r x d a m)))
     where
       v : Book
       v = r.book
@@ -624,45 +676,25 @@ module _ (z : Sizes) (zo : SizesOk z) (p : Plan) (fine : PlanFine p) (logs bound
       mv : Moves v.ledger t
       mv = moves v k
 
-      reads : ledger_or logs (O.after (f 0).bytes x) ≡ just y.ledger
-      reads = ap (ledger_or logs) (after_is (f 0).bytes x v.ledger r.ledger ∙ ap (λ (w : Turn). bytes_of (write_ledger w.ledger)) d.is) ∙ ledger_back logs t.ledger (L.ledger_words k hn r.sound r.within d.want)
-
-      mem : (a : Filling) → Among a (row_fillings t.rows ++ out_fillings t.outs) → Memᴰ a (O.pages (f 0).bytes x)
-      mem a h = among_mem a (O.pages (f 0).bytes x) (subst (Among a) (sym (pages_are (f 0).bytes x v.ledger r.ledger ∙ ap (λ (w : Turn). row_fillings w.rows ++ out_fillings w.outs) d.is)) h)
-
-      row : (j : ℕ) → v.ledger.queue.next ≤ j → j < t.ledger.queue.next → (1 ≤ (f (row_box j)).edition) × (page_in (f (row_box j)).bytes ≡ just (written t.rows v.row j))
-      row j a b = go (find_row v.ledger.queue.next t.rows v.row j mv.rows a (omega (arith, b, mv.next)))
-        where
-          go : (w : Write) × Among w t.rows × (w.number ≡ j) × (written t.rows v.row j ≡ w.content) → (1 ≤ (f (row_box j)).edition) × (page_in (f (row_box j)).bytes ≡ just (written t.rows v.row j))
-          go (w, i, q, c) =
-              let h : (1 ≤ (f (row_box w.number)).edition) × ((f (row_box w.number)).bytes ≡ bytes_of (write_page w.content)) = there (row_filling w) (mem (row_filling w) (filled_row w t.rows (out_fillings t.outs) i)) in
-              let u : AreWords (write_page w.content) × Filled w.content = L.page_words k w hn r.sound r.within d.want i in
-              subst (λ (s : ℕ). (1 ≤ (f (row_box s)).edition) × (page_in (f (row_box s)).bytes ≡ just (written t.rows v.row j))) q (h.0, ap page_in h.1 ∙ reads_back.2.back w.content u.1 u.0 ∙ ap just (sym c))
-
-      out : (j : ℕ) → v.ledger.pages ≤ j → j < t.ledger.pages → (1 ≤ (f (out_box j)).edition) × (out_in (f (out_box j)).bytes ≡ just (out_written t.outs v.out j))
-      out j a b = go (find_out v.ledger.pages t.outs v.out j mv.outs a (omega (arith, b, mv.pages)))
-        where
-          go : (w : OutWrite) × Among w t.outs × (w.number ≡ j) × (out_written t.outs v.out j ≡ w.events) → (1 ≤ (f (out_box j)).edition) × (out_in (f (out_box j)).bytes ≡ just (out_written t.outs v.out j))
-          go (w, i, q, c) =
-              let h : (1 ≤ (f (out_box w.number)).edition) × ((f (out_box w.number)).bytes ≡ bytes_of (write_out w.events)) = there (out_filling w) (mem (out_filling w) (filled_out w t.rows t.outs i)) in
-              subst (λ (s : ℕ). (1 ≤ (f (out_box s)).edition) × (out_in (f (out_box s)).bytes ≡ just (out_written t.outs v.out j))) q (h.0, ap out_in h.1 ∙ reads_back.3.back w.events tt (L.out_words k w hn r.sound r.within d.want i) ∙ ap just (sym c))
+      s : Stepped n ls f r x k
+      s = stepped n ls f r x hn d there
 
       both : Right (suc n) ls (at 0 (record { edition = e + 1; bytes = O.after (f 0).bytes x }) f) × Stays OldLedger OldLog Floor Spent ls f ls (at 0 (record { edition = e + 1; bytes = O.after (f 0).bytes x }) f)
-      both = refilled n (suc n) ls f r (O.after (f 0).bytes x) y e (record { sound = sound_turn z zo p fine ls v k r.sound d.want; within = L.turn k hn r.sound r.within d.want; grows = always_grows z p v y (turn k itself d.want); reads = reads; log = λ l. refl; row = row; out = out })
+      both = refilled n (suc n) ls f r (O.after (f 0).bytes x) y e (record { sound = sound_turn z zo p fine ls v k r.sound d.want; within = L.turn k hn r.sound r.within d.want; grows = always_grows z p v y (turn k itself d.want); reads = s.reads; log = λ l. refl; row = s.row; out = s.out })
 
       spent : (a : Filling) → Called t a → Page' t.ledger a.box
       spent a (a_row w i q) = inl (w.number, omega (arith, (among_numbers v.ledger.queue.next t.rows w mv.rows i).1, mv.next), ap (λ (s : Filling). s.box) q)
       spent a (an_out w i q) = inr (w.number, omega (arith, (among_outs v.ledger.pages t.outs w mv.outs i).1, mv.pages), ap (λ (s : Filling). s.box) q)
 
   -- WHAT CAME OUT
-  pages_full : (n : ℕ) (ls : List (List Entry)) (f : ℕ → Box) (r : Right n ls f) (t : ℕ) → t < r.book.ledger.pages → length (out_in' f t) ≡ z.outs
+  pub pages_full : (n : ℕ) (ls : List (List Entry)) (f : ℕ → Box) (r : Right n ls f) (t : ℕ) → t < r.book.ledger.pages → length (out_in' f t) ≡ z.outs
   unfolding or_none
   pages_full n ls f r t h = ap (λ (m : Maybe (List Event)). length (or_none m)) (r.out t h).1 ∙ r.sound.full t h
 
   old_pages : (n : ℕ) (ls : List (List Entry)) (f : ℕ → Box) (r : Right n ls f) (x : List ℕ) (a : Old f x) → a.old.pages ≤ r.book.ledger.pages
   old_pages n ls f r x a = omega (arith, a.pages, ap (λ (y : Ledger). y.pages) (just_same a.now r.book.ledger (sym a.is ∙ r.ledger)))
 
-  in_page : (from : ℕ) (got : List Event) (n : ℕ) → from + length got < n * z.outs → (from + length got) / z.outs < n
+  pub in_page : (from : ℕ) (got : List Event) (n : ℕ) → from + length got < n * z.outs → (from + length got) / z.outs < n
   in_page from got n h = let q : (from + length got) / z.outs * z.outs + (from + length got) % z.outs ≡ from + length got = div-add-mod' (from + length got) z.outs in lt_of_mul-lt-mul_right z.outs (omega (arith, q, h))
 
   answer_spent : {n : ℕ} {ls : List (List Entry)} {f : ℕ → Box} → Right n ls f → (from most : ℕ) (x : List ℕ) (got : List Event) (b : ℕ) → Old f x → O.answer from most x got ≡ Rattle.book.specs.Interface.page b → Spent (f 0).bytes b

@@ -8,6 +8,10 @@ use Rattle.streams.specs.Hands.{Box, at, all_bytes}
 use Rattle.book.specs.Ledger.{log_box}
 use Rattle.book.specs.Book.{put_all}
 
+-- the steps of a run of which anything is promised
+abbrev pub horizon : ℕ
+horizon = 72057594037927936
+
 -- THE OPERATIONS
 pub data Gives : Type 0 where
   lacks : Gives
@@ -115,7 +119,7 @@ pub record Laws (o : Ops) (p : Plan) (logs bound : ℕ) (Sound : ℕ → List (L
 -- A BOOK that keeps them
 pub record Safe (o : Ops) (p : Plan) (logs : ℕ) : Type 1 where
   pub bound : ℕ
-  pub far : 72057594037927936 ≤ bound
+  pub far : horizon ≤ bound
   pub Sound : ℕ → List (List Entry) → (ℕ → Box) → Type 0
   pub OldLedger : List (List Entry) → (ℕ → Box) → List ℕ → Type 0
   pub OldLog : List (List Entry) → (ℕ → Box) → ℕ → List ℕ → Type 0

@@ -17,3 +17,4 @@ pub mod Right
 pub mod Room
 pub mod Levels
 pub mod Live
+pub mod Work

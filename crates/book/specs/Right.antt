@@ -6,10 +6,12 @@ use Rattle.streams.specs.Calls.{drop_of, first_of, plan_ok}
 use Rattle.streams.specs.Hands.{Box, all_bytes}
 use Rattle.book.specs.Due.{Sizes}
 use Rattle.book.specs.Ledger.{LogBox, taken_of, Ledger, log_box, row_box, out_box}
-use Rattle.book.specs.Words.{just, page_in, out_in}
+use Rattle.book.specs.Words.{just, page_in, out_in, write_ledger, write_page, AreWords}
 use Rattle.book.specs.Book.{Book, SoundBook, outs_of, HeldOnce, log_of, AllTaken}
+use Rattle.book.specs.Small.{total}
+use Rattle.book.specs.Limits.{longest}
 use Rattle.book.specs.Levels.{Within}
-use Rattle.book.specs.Interface.{lacks, nothing, reply, Gathered, Laws}
+use Rattle.book.specs.Interface.{horizon, lacks, nothing, reply, Gathered, Laws}
 use Rattle.book.specs.Real.{sizes, log_or, ledger_or, or_none, floor_of, real}
 
 -- THE BOXES ARE RIGHT: they hold a book that is right for the logs and within its limits, each content as its bytes; every page below the next is filled
@@ -62,15 +64,21 @@ Page' y b = ((k : ℕ) × (k < y.queue.next) × (b ≡ row_box k)) ⊎ ((t : ℕ
 abbrev pub Spent : (logs : ℕ) → List ℕ → ℕ → Type 0
 Spent logs x b = (y : Ledger) × (ledger_or logs x ≡ just y) × Page' y b
 
--- THE THEOREM: for 2 to the 56 steps, of any plan and up to 256 logs, the book on bytes keeps the laws that a worker needs
+-- THE THEOREM: of any plan and up to 256 logs, the book on bytes keeps the laws that a worker needs
 abbrev pub BookLaws : Type 0
 BookLaws =
-    (p : Plan) → T (plan_ok p) → (logs : ℕ) → logs ≤ 256 → Laws (real sizes p logs) p logs 72057594037927936 (Right sizes p logs (Within sizes)) (OldLedger logs) (OldLog p.late logs) (Floor logs) (Spent logs)
+    (p : Plan) → T (plan_ok p) → (logs : ℕ) → logs ≤ 256 → Laws (real sizes p logs) p logs longest (Right sizes p logs (Within sizes)) (OldLedger logs) (OldLog p.late logs) (Floor logs) (Spent logs)
 
--- and the ledger and the log boxes are below 256 KiB
+-- in 2 to the 56 steps every number of the ledger and of its pages is a word
+abbrev pub BookWords : Type 0
+BookWords =
+    (p : Plan) (logs n : ℕ) (ls : List (List Entry)) (f : ℕ → Box) → n ≤ horizon → (r : Right sizes p logs (Within sizes) n ls f) → AreWords (write_ledger r.book.ledger) × ((k : ℕ) → AreWords (write_page (r.book.row k)))
+
+-- so long the ledger and the log boxes are below 256 KiB; and below 1 MiB however long, with so many entries in the logs as are put in that time
 abbrev pub BookFits : Type 0
 BookFits =
-    (p : Plan) (logs n : ℕ) (ls : List (List Entry)) (f : ℕ → Box) → n ≤ 72057594037927936 → Right sizes p logs (Within sizes) n ls f → (b : ℕ) → ((b ≡ 0) ⊎ ((l : ℕ) × (l < logs) × (b ≡ log_box l))) → T (nat_le (length (f b).bytes) 262144 && all_bytes (f b).bytes)
+    (p : Plan) (logs n : ℕ) (ls : List (List Entry)) (f : ℕ → Box) → Right sizes p logs (Within sizes) n ls f → (b : ℕ) → ((b ≡ 0) ⊎ ((l : ℕ) × (l < logs) × (b ≡ log_box l))) →
+    (n ≤ horizon → T (nat_le (length (f b).bytes) 262144 && all_bytes (f b).bytes)) × (total ls ≤ horizon → T (nat_le (length (f b).bytes) 1048576 && all_bytes (f b).bytes))
 
 -- and once nothing is due and all logs are taken, an answer is all there is, up to as many as were asked for
 abbrev pub BookAnswersAll : Type 0
@@ -82,5 +90,5 @@ BookAnswersAll =
 abbrev pub BookTakes : Type 0
 BookTakes =
     (p : Plan) → T (plan_ok p) → (logs : ℕ) → logs ≤ 256 →
-    ((n : ℕ) (ls : List (List Entry)) (f : ℕ → Box) → n < 72057594037927936 → Right sizes p logs (Within sizes) n ls f → (real sizes p logs).due (f 0).bytes ≡ nothing → (l : ℕ) → l < logs → (real sizes p logs).take (f 0).bytes l (f (log_box l)).bytes ≢ lacks) ×
+    ((n : ℕ) (ls : List (List Entry)) (f : ℕ → Box) → n < longest → Right sizes p logs (Within sizes) n ls f → (real sizes p logs).due (f 0).bytes ≡ nothing → (l : ℕ) → l < logs → (real sizes p logs).take (f 0).bytes l (f (log_box l)).bytes ≢ lacks) ×
     ((x shown : List ℕ) → length ((real sizes p logs).pages x shown) ≤ 2)

@@ -21,11 +21,6 @@ less_rest (taken e) k = ⊎_elim (λ x. inl (x ∙ sym e)) (λ x. inr x) (Memᴰ
 less_rest (later h) (Memᴰ.head x) = inr (Memᴰ.head x)
 less_rest (later h) (Memᴰ.tail x) = ⊎_elim (λ y. inl y) (λ y. inr (Memᴰ.tail y)) (less_rest h x)
 
-pub less_in : {A : Type 0} {a b : A} {l m : List A} → Less a l m → Memᴰ b m → Memᴰ b l
-less_in (taken e) k = Memᴰ.tail k
-less_in (later h) (Memᴰ.head x) = Memᴰ.head x
-less_in (later h) (Memᴰ.tail x) = Memᴰ.tail (less_in h x)
-
 pub less_split : {A : Type 0} {a : A} {l m : List A} → Less a l m → (xs : List A) × (ys : List A) × (l ≡ xs ++ a ∷ ys) × (m ≡ xs ++ ys)
 less_split {A} {a} (taken {l = l} e) = ([], l, ap {B = List A} (λ z. z ∷ l) (sym e), refl)
 less_split {A} {a} (later {x = x} h) = let r = less_split h in (x ∷ r.0, r.1, ap {B = List A} (λ z. x ∷ z) r.2, ap {B = List A} (λ z. x ∷ z) r.3)

@@ -7,3 +7,4 @@ pub mod Waiting
 pub mod Counts
 pub mod Latelooks
 pub mod Scripts
+pub mod Made

@@ -32,6 +32,12 @@ unfoldable pub back : {M O R : Type 0} {h : Hand M O R} {all : ℕ} → ℕ → 
 back zero a = a
 back (suc k) a = back k (before a.goes)
 
+-- how many calls customers made
+unfoldable pub calls : {O R : Type 0} → List (Seen O R) → ℕ
+calls [] = 0
+calls (called i k o ∷ es) = 1 + calls es
+calls (told i k r ∷ es) = calls es
+
 -- ANY HAND whose mind is a list of numbers
 pub record Turn : Type 0 where
   pub does : List (Out ℕ Reply)

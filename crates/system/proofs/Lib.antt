@@ -1,1 +1,2 @@
 mod Strange
+mod Together

@@ -8,11 +8,13 @@ use Rattle.streams.specs.Calls.{Call, Out', Reply, Outs, State, core, first_of, 
 use Rattle.streams.specs.Hands.{Ask, Hand, Stand, here, Seen, called, told, tells, is_used, Scene, Waits, count_at, turned, asking, Alone, Goes, asked, Open, Ready, Book}
 use Rattle.streams.specs.Promise.{streams}
 use Rattle.book.specs.Ledger.{log_box}
-use Rattle.book.specs.Interface.{nothing, Ops, Safe}
+use Rattle.book.specs.Interface.{horizon, nothing, Ops, Safe}
 use Rattle.worker.specs.Worker.{Job, none, some, rest, Keep, Mind, none', asks, keeping, hearing, waits, start, start_by, accepts, judges, refuses, acts, worker, puts_of}
 use Rattle.book.specs.Live.{Live, AnswersAll}
+use Rattle.shelf.specs.Moments.{calls}
 use Rattle.worker.specs.Theorems.{WorkerEnds, WorkerOut, WorkerWithin}
 use Rattle.shelf.proofs.Places.{at_self}
+use Rattle.shelf.proofs.Made.{calls_asked, calls_most, calls_alone}
 use Rattle.shelf.proofs.Waiting.{Waiting, waits_ok}
 use Rattle.worker.proofs.Invariant.{none_some}
 use Rattle.worker.proofs.Onebook.{inv}
@@ -20,6 +22,7 @@ use Rattle.worker.proofs.Jobs.{state_of}
 use Rattle.worker.proofs.Safelaws.{safe_laws}
 use Rattle.worker.proofs.Keeping.{HasM, worker_keeps_calls, worker_takes_calls, alone_waits, count_none}
 use Rattle.worker.proofs.Alone.{At, begun}
+use Rattle.worker.proofs.Tending.{sound_at}
 use Rattle.worker.proofs.Ends.{Final, all_ends, Answered, ask_answer}
 
 -- a hand that keeps nothing has no call in mind
@@ -32,18 +35,20 @@ module _ (o : Ops) (p : Plan) (logs : ℕ) (P : Safe o p logs) (V : Live o p log
   abbrev H : Hand ℕ Call Reply
   H = worker o logs
 
-  far : n < P.bound
-  far = let f = P.far in omega (arith, f, sm)
+  made : calls es ≤ horizon
+  made = let q = calls_most g in omega (arith, q, sm)
 
   -- room for all
-  tot : (t : ℕ) × (t + 2 * V.long + 20 < P.bound) × Final o p logs P V one all i c al lt es s t
-  tot = let v = inv o p logs (safe_laws o p logs P) al far g in let q = v.3.sound in
-      let en = V.enough sm (subst (P.Sound n v.0.ls) q.is q.sound) in
+  tot : (t : ℕ) × (t + 2 * V.long + 20 < P.bound) × Final o p logs P V one all i c al lt es s made t
+  tot =
+      let en = V.enough (calls es) made in
       let b = begun o logs all i c lt es s m g e in let le = b.1 in
-      let t : ℕ = n + 2 + 12 * V.work (s.box 0).bytes s.box + 24 * logs + 40 + 10 * (12 * V.heavy + 12 * V.long + 40) in
-      (t, omega (arith, en), all_ends o p logs P V one all i c al lt es s (hearing m false) s.box b.0 t (omega (arith, en)) (omega (arith, le)) b.2)
+      let sb : b.0 < P.bound = omega (arith, le, sm, en) in
+      let sd = sound_at o p logs P V one all i c al lt es s made b.2 sb in
+      let t : ℕ = n + 132 * V.heavy (calls es) + 20 * V.long + 24 * logs + 442 in
+      (t, omega (arith, sm, en), all_ends o p logs P V one all i c al lt es s made (hearing m false) s.box b.0 (V.heavy (calls es)) t (omega (arith, sm, en)) (V.work_most sb sd.1 (calls es) sd.2) (omega (arith, le)) b.2)
 
-  abbrev F : Final o p logs P V one all i c al lt es s tot.0
+  abbrev F : Final o p logs P V one all i c al lt es s made tot.0
   F = tot.2
 
   abbrev to : Scene Mind ℕ
@@ -61,7 +66,7 @@ module _ (o : Ops) (p : Plan) (logs : ℕ) (P : Safe o p logs) (V : Live o p log
   one_enough = (F.at'.mid.fs, to, F.at'.mid.run, λ k w. ⊎_elim (λ z. absurd (no_waits (record { hand = i; number = k }) z refl)) (λ z. z) (alone_waits F.at'.mid.run k w))
 
   -- all that and how soon
-  pub within : (fs : List (Seen Call Reply)) × (t : Scene Mind ℕ) × (k : ℕ) × Alone H i s fs t × Goes H all k (fs ++ es) t × (k ≤ n + 12 * V.work (s.box 0).bytes s.box + 120 * V.heavy + 120 * V.long + 24 * logs + 442) × (count_at i t.waits ≡ 0) ×
+  pub within : (fs : List (Seen Call Reply)) × (t : Scene Mind ℕ) × (k : ℕ) × Alone H i s fs t × Goes H all k (fs ++ es) t × (k ≤ n + 132 * V.heavy (calls es) + 20 * V.long + 24 * logs + 442) × (count_at i t.waits ≡ 0) ×
       (o.due (t.box 0).bytes ≡ nothing) × ((l : ℕ) → l < logs → V.Took (t.box 0).bytes l (t.box (log_box l)).bytes)
   unfolding tot
   within = (
@@ -129,11 +134,14 @@ module _ (o : Ops) (p : Plan) (logs : ℕ) (P : Safe o p logs) (V : Live o p log
       b : (a : ℕ) × (a ≤ 2 + suc F.n) × At o logs all i c lt es2 s2 (start o logs (hearing m2 false)) to.box a
       b = begun o logs all i c lt es2 s2 m2 (asked i c k x M lt ks F.at'.mid.goes F.at'.mid.minds un) (at_self i (here c m2) to.hand)
 
+      made2 : calls es2 ≤ horizon
+      made2 = let a = calls_asked i k x (H.turns (Ask k x) M).does (F.at'.mid.fs ++ es) in let b = calls_alone es F.at'.mid.run in let c = calls_most g in omega (arith, a, b, c, sm)
+
       q : (y : Keep) × (y.batch ≡ none) × (y.waiting ≡ record { number = k; call = Out' from most } ∷ []) × (m2.keep ≡ y)
       q = ask_is k from most ms
 
-      r : Answered o p logs P V one all i c al lt es2 s2 (hearing m2 false).keep to.box (b.0 + 2 * V.long + 4) k from most
-      r = ask_answer o p logs P V one all i c al lt es2 s2 (hearing m2 false) to.box b.0 k from most (b.0 + 2 * V.long + 4) (let a = near in let z = b.1 in omega (arith, a, z)) (omega arith)
+      r : Answered o p logs P V one all i c al lt es2 s2 made2 (hearing m2 false).keep to.box (b.0 + 2 * V.long + 4) k from most
+      r = ask_answer o p logs P V one all i c al lt es2 s2 made2 (hearing m2 false) to.box b.0 k from most (b.0 + 2 * V.long + 4) ms (let a = near in let z = b.1 in omega (arith, a, z)) (omega arith)
           (subst₂ (λ y z. At o logs all i c lt es2 s2 (start_by o logs (hearing m2 false) y z) to.box b.0) (ap (λ z. z.batch) q.3 ∙ q.1) (ap (λ z. z.waiting) q.3 ∙ q.2) b.2)
 
       f_is : F.f ≡ to.box

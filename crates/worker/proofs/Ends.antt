@@ -1,21 +1,22 @@
 -- The worker alone answers all that waits at it, and comes to rest where nothing is due and all is taken.
-use Rattle.std.proofs.Common.{◌≡◌, ℕ, zero, suc, ◌+◌, ◌*◌, ◌<◌, ◌≤◌, Bool, true, false, cond, not, eqb, ltb, ◌⊎◌, List, [], ◌∷◌, length, sym, refl, ap, ◌∙◌, subst, subst₂, inl, inr, ⊎_elim, arith}
+use Rattle.std.proofs.Common.{◌≡◌, ℕ, zero, suc, ◌+◌, ◌*◌, ◌<◌, ◌≤◌, Bool, true, false, cond, not, T, eqb, ltb, ◌⊎◌, List, [], ◌∷◌, length, sym, refl, ap, ◌∙◌, subst, subst₂, inl, inr, ⊎_elim, arith}
 use mathlib.Core.List.{Memᴰ}
 use Rattle.std.proofs.lemmas.Bool.{eqb-true, eq-eqb, ne_eqb, lt-ltb, ltb-true, ltb-false, not_from_true, cond-true, cond-false, cond_both, cases_Bool, both_ways}
 use Rattle.streams.specs.Meaning.{Event, Entry, Plan}
-use Rattle.streams.specs.Calls.{Call, Put, Out', Drop, Reply, Outs}
+use Rattle.streams.specs.Calls.{Call, Put, Out', Drop, Reply, Outs, entry_ok}
 use Rattle.streams.specs.Hands.{Box, Seen, at, Scene, Beat, a_beat}
 use Rattle.book.specs.Ledger.{log_box}
-use Rattle.book.specs.Interface.{Gives, lacks, gives, nothing, Next, page, reply, Ops, Gathered, no_page, one_page, Safe}
+use Rattle.book.specs.Interface.{horizon, Gives, lacks, gives, nothing, Next, page, reply, Ops, Gathered, no_page, one_page, Tag, Safe}
 use Rattle.worker.specs.Worker.{Job, Batch, none, some, rest, log, put, answer', gather, Keep, Mind, Told, none', show, fill, Step, asks, keeping, hearing, looking, waits, fixed, settled', saying, for_log, keep_if, entries, yeses, puts_of, read_ledger, start_call, start_by, start, idle_by, idle, settle, fill_log, putting, on_log_by, on_put_by, gather_by, gathers, acts}
 use Rattle.book.specs.Live.{Live}
-use Rattle.worker.proofs.Jobs.{keep_less, entries_few}
-use Rattle.worker.proofs.Invariant.{log_some, CallOk}
+use Rattle.book.specs.Small.{total}
+use Rattle.shelf.specs.Moments.{calls}
+use Rattle.worker.proofs.Jobs.{keep_less, in_keep, entries_few, entries_ok, IsPut}
+use Rattle.worker.proofs.Invariant.{CallOk, for_put}
 use Rattle.worker.proofs.Onebook.{inv}
 use Rattle.worker.proofs.Safelaws.{safe_laws}
 use Rattle.worker.proofs.Alone.{At, see, mid_turn}
-use Rattle.worker.proofs.Tending.{sound_at, fit_of, pours, next, ahead, ledger_done}
-use Rattle.shelf.proofs.Places.{at_other}
+use Rattle.worker.proofs.Tending.{sound_at, floor_at, pours, next, ahead, ledger_done}
 
 diff : (a b : ℕ) → a ≤ b → (d : ℕ) × (b ≡ a + d)
 diff zero b le = (b, omega arith)
@@ -30,25 +31,37 @@ batch_one (some l ps) = 1
 abbrev pub jobs_in : Keep → ℕ
 jobs_in k = length k.waiting + batch_one k.batch
 
-module _ (o : Ops) (p : Plan) (logs : ℕ) (P : Safe o p logs) (V : Live o p logs P) (one : 1 ≤ logs) (all i c : ℕ) (al : all ≤ 64) (lt : i < all) (es : List (Seen Call Reply)) (s : Scene Mind ℕ) where
+module _ (o : Ops) (p : Plan) (logs : ℕ) (P : Safe o p logs) (V : Live o p logs P) (one : 1 ≤ logs) (all i c : ℕ) (al : all ≤ 64) (lt : i < all) (es : List (Seen Call Reply)) (s : Scene Mind ℕ) (made : calls es ≤ horizon) where
   abbrev pub B : Step → (ℕ → Box) → ℕ → Type 0
   B r f n = At o logs all i c lt es s r f n
 
-  abbrev W0 : (ℕ → Box) → ℕ
-  W0 f = V.work (f 0).bytes f
+  -- the most that can be left to do
+  abbrev heavy : ℕ
+  heavy = V.heavy (calls es)
 
   -- what is used of the invariant
-  pub record KeepFacts (k : Keep) : Type 0 where
+  pub record KeepFacts (k : Keep) (n : ℕ) : Type 0 where
     pub few : length k.waiting + puts_of k.batch ≤ 8
     pub ok : (j : Job) → Memᴰ j k.waiting → CallOk logs j.call
     pub in_logs : (l : ℕ) (ps : List Job) → k.batch ≡ some l ps → l < logs
+    pub from : (l : ℕ) (ps : List Job) → k.batch ≡ some l ps → 1 ≤ k.serial
+    pub puts : (l : ℕ) (ps : List Job) → k.batch ≡ some l ps → (j : Job) → Memᴰ j ps → IsPut l j.call
+    -- the tag of its batch, and of the next one
+    pub tag : (t : ℕ) → 1 ≤ t → t ≤ k.serial + 1 → Tag (suc n) k.me k.chance t
 
-  pub keep_at : {r : Step} {f : ℕ → Box} {n : ℕ} → B r f n → n < P.bound → KeepFacts r.mind.keep
+  pub keep_at : {r : Step} {f : ℕ → Box} {n : ℕ} → B r f n → n < P.bound → KeepFacts r.mind.keep n
   keep_at {r} {f} {n} a sm = let v = inv o p logs (safe_laws o p logs P) al sm a.mid.goes in let k = (v.3.hands i c r.mind a.mid.minds).keep in
-      record { few = k.few; ok = k.ok; in_logs = λ l ps e. (k.batch l ps e).in_logs }
+      record {
+        few = k.few;
+        ok = k.ok;
+        in_logs = λ l ps e. (k.batch l ps e).in_logs;
+        from = λ l ps e. (k.batch l ps e).from;
+        puts = λ l ps e. (k.batch l ps e).puts;
+        tag = λ t one le. subst₂ (λ x y. Tag (suc n) x y t) (sym k.me) (sym k.chance) (record { worker = k.hand; life = k.life; from = one; upto = let q = k.serial in omega (arith, q, le) });
+      }
 
-  snd : {r : Step} {f : ℕ → Box} {n : ℕ} → B r f n → n < P.bound → (ls : List (List Entry)) × P.Sound n ls f
-  snd a sm = sound_at o p logs P V one all i c al lt es s a sm
+  snd : {r : Step} {f : ℕ → Box} {n : ℕ} → B r f n → n < P.bound → (ls : List (List Entry)) × P.Sound n ls f × (total ls ≤ calls es)
+  snd a sm = sound_at o p logs P V one all i c al lt es s made a sm
 
   -- what is told is told; the rest goes on
   quiet_call : (m : Mind) (k : ℕ) (x : Call) → (start_call o logs m k x).tell ≡ []
@@ -71,28 +84,30 @@ module _ (o : Ops) (p : Plan) (logs : ℕ) (P : Safe o p logs) (V : Live o p log
     pub n : ℕ
     pub at' : B (idle o logs m) f n
     pub fewer : jobs_in m.keep < jobs_in k0
-    pub spent : n + 12 * W0 f ≤ tot
+    pub w : ℕ
+    pub work : V.Work w f
+    pub spent : n + 12 * w ≤ tot
 
   -- why a log is put into: for the batch in hand, or for the call that waits longest
   pub data Which (l : ℕ) (k : Keep) : Type 0 where
     fixed' : (ps : List Job) → k.batch ≡ some l ps → Which l k
     first' : (j : Job) (js : List Job) → k.batch ≡ none → k.waiting ≡ j ∷ js → for_log l j.call ≡ true → Which l k
 
-  abbrev Stuck : ℕ → List ℕ → (ℕ → Box) → Type 0
-  Stuck l fl f = (a b t : ℕ) × (xs : List Entry) × (length xs ≤ 8) × (o.adds fl a b t l (f (log_box l)).bytes xs ≡ lacks)
+  -- there was no room in a log for a batch, by that floor
+  abbrev Stuck : ℕ → List ℕ → (ℕ → Box) → ℕ → Type 0
+  Stuck l fl f n = (a b t : ℕ) × (xs : List Entry) × Tag n a b t × ((x : Entry) → Memᴰ x xs → T (entry_ok x)) × (length xs ≤ 8) × (o.adds fl a b t l (f (log_box l)).bytes xs ≡ lacks)
 
-  settles : (m : Mind) (f : ℕ → Box) (n l : ℕ) (ps : List Job) (k0 : Keep) (tot : ℕ) → jobs_in (settled' m.keep) < jobs_in k0 → n + 12 * W0 f ≤ tot → B (settle o logs m ps) f n → Less k0 tot
-  settles m f n l ps k0 tot fw sp a = record { m = keeping m (settled' m.keep); f = f; n = n; at' = unsay (yeses ps) (quiet_idle (keeping m (settled' m.keep)) none m.keep.waiting) a; fewer = fw; spent = sp }
+  settles : (m : Mind) (f : ℕ → Box) (n w : ℕ) (ps : List Job) (k0 : Keep) (tot : ℕ) → jobs_in (settled' m.keep) < jobs_in k0 → V.Work w f → n + 12 * w ≤ tot → B (settle o logs m ps) f n → Less k0 tot
+  settles m f n w ps k0 tot fw wk sp a = record { m = keeping m (settled' m.keep); f = f; n = n; at' = unsay (yeses ps) (quiet_idle (keeping m (settled' m.keep)) none m.keep.waiting) a; fewer = fw; w = w; work = wk; spent = sp }
 
   -- a batch is filled in, or there is no room
-  puts : (m : Mind) (f : ℕ → Box) (n l : ℕ) (ps : List Job) (k k0 : Keep) (tot : ℕ) → tot < P.bound → l < logs → length (entries ps) ≤ 8 → k.batch ≡ some l ps → length k.waiting < jobs_in k0 → n + 12 * W0 f + 12 * V.heavy + 4 ≤ tot →
-      B (putting o logs m k l ps (f (log_box l))) f n → Less k0 tot ⊎ (B (read_ledger o logs (looking m m.floor l 1)) f n × Stuck l m.floor f)
-  puts m f n l ps k k0 tot tb ll few kb fw bud a = by (o.adds m.floor k.me k.chance k.serial l (f (log_box l)).bytes (entries ps)) refl a
+  puts : (m : Mind) (f : ℕ → Box) (n t l : ℕ) (ps : List Job) (k k0 : Keep) (tot : ℕ) → tot < P.bound → l < logs → Tag t k.me k.chance k.serial → ((x : Entry) → Memᴰ x (entries ps) → T (entry_ok x)) → length (entries ps) ≤ 8 → k.batch ≡ some l ps → length k.waiting < jobs_in k0 → n + 12 * heavy + 4 ≤ tot →
+      B (putting o logs m k l ps (f (log_box l))) f n → Less k0 tot ⊎ (B (read_ledger o logs (looking m m.floor l 1)) f n × Stuck l m.floor f t)
+  puts m f n t l ps k k0 tot tb ll tag ok few kb fw bud a = by (o.adds m.floor k.me k.chance k.serial l (f (log_box l)).bytes (entries ps)) refl a
     where
-      by : (g : Gives) → o.adds m.floor k.me k.chance k.serial l (f (log_box l)).bytes (entries ps) ≡ g → B (fill_log o logs m k l (f (log_box l)).edition g) f n → Less k0 tot ⊎ (B (read_ledger o logs (looking m m.floor l 1)) f n × Stuck l m.floor f)
-      by lacks e a = inr (a, (k.me, k.chance, k.serial, entries ps, few, e))
-      by (gives bs) e a = inl (settles m2 f1 (suc (suc n)) l ps k0 tot (omega (arith, fw)) (omega (arith, w1, wk, bud)) (subst (λ z. B (on_put_by o logs m2 true z) f1 (suc (suc n))) kb
-          (pours o p logs P V one all i c al lt es s (log_box l) (f (log_box l)).edition bs (inr (l, ll, refl)) refl refl (omega (arith, bud, tb)) a)))
+      by : (g : Gives) → o.adds m.floor k.me k.chance k.serial l (f (log_box l)).bytes (entries ps) ≡ g → B (fill_log o logs m k l (f (log_box l)).edition g) f n → Less k0 tot ⊎ (B (read_ledger o logs (looking m m.floor l 1)) f n × Stuck l m.floor f t)
+      by lacks e a = inr (a, (k.me, k.chance, k.serial, entries ps, tag, ok, few, e))
+      by (gives bs) e a = inl (settles m2 f1 (suc (suc n)) heavy ps k0 tot (omega (arith, fw)) (V.work_most n2 sd.1 (calls es) sd.2) (omega (arith, bud)) a2)
         where
           m2 : Mind
           m2 = hearing (asks (keeping m k) (fill (log_box l) (f (log_box l)).edition bs) put).mind true
@@ -100,12 +115,14 @@ module _ (o : Ops) (p : Plan) (logs : ℕ) (P : Safe o p logs) (V : Live o p log
           f1 : ℕ → Box
           f1 = at (log_box l) (record { edition = (f (log_box l)).edition + 1; bytes = bs }) f
 
-          w1 : W0 f1 ≡ V.work (f 0).bytes f1
-          w1 = ap (λ z. V.work z.bytes f1) (at_other (log_box l) (record { edition = (f (log_box l)).edition + 1; bytes = bs }) f 0 (λ z. log_some l (sym z)))
+          a2 : B (settle o logs m2 ps) f1 (suc (suc n))
+          a2 = subst (λ z. B (on_put_by o logs m2 true z) f1 (suc (suc n))) kb (pours o p logs P V one all i c al lt es s made (log_box l) (f (log_box l)).edition bs (inr (l, ll, refl)) refl refl (omega (arith, bud, tb)) a)
 
-          wk : V.work (f 0).bytes f1 ≤ W0 f + V.heavy
-          wk = V.work_put ((f (log_box l)).edition + 1) (omega (arith, bud, tb)) (omega (arith, bud, tb)) (snd a (omega (arith, bud, tb))).1 k.me k.chance k.serial l m.floor bs (entries ps) ll few e
-              (fit_of o p logs P V one all i c al lt es s (log_box l) (f (log_box l)).edition bs (inr (l, ll, refl)) refl refl (omega (arith, bud, tb)) a).1.1
+          n2 : suc (suc n) < P.bound
+          n2 = omega (arith, bud, tb)
+
+          sd : (ls : List (List Entry)) × P.Sound (suc (suc n)) ls f1 × (total ls ≤ calls es)
+          sd = snd a2 n2
 
   some_jobs : (k : Keep) (l : ℕ) (ps : List Job) → k.batch ≡ some l ps → jobs_in k ≡ length k.waiting + 1
   some_jobs k l ps e = ap (λ z. length k.waiting + batch_one z) e
@@ -115,9 +132,9 @@ module _ (o : Ops) (p : Plan) (logs : ℕ) (P : Safe o p logs) (V : Live o p log
   drop_one f j js e = subst (λ z. length z ≤ length js) (sym (cond-false (f j) (j ∷ keep_if f js) (keep_if f js) e)) (keep_less f js)
 
   -- a log is shown: it is settled, filled in, or has no room
-  visit : (l : ℕ) (m : Mind) (f : ℕ → Box) (n tot : ℕ) → tot < P.bound → Which l m.keep → l < logs → KeepFacts m.keep → n + 12 * W0 f + 12 * V.heavy + 6 ≤ tot → B (asks m (show (log_box l)) (log l)) f n →
-      Less m.keep tot ⊎ (B (read_ledger o logs (looking (hearing (asks m (show (log_box l)) (log l)).mind true) m.floor l 1)) f (suc (suc n)) × Stuck l m.floor f)
-  visit l m f n tot tb (fixed' ps e) ll kf bud a = by (cases_Bool (o.has (f (log_box l)).bytes m.keep.me m.keep.chance m.keep.serial))
+  visit : (l : ℕ) (m : Mind) (f : ℕ → Box) (n w tot : ℕ) → tot < P.bound → Which l m.keep → l < logs → KeepFacts m.keep n → V.Work w f → n + 12 * w + 12 * heavy + 6 ≤ tot → B (asks m (show (log_box l)) (log l)) f n →
+      Less m.keep tot ⊎ (B (read_ledger o logs (looking (hearing (asks m (show (log_box l)) (log l)).mind true) m.floor l 1)) f (suc (suc n)) × Stuck l m.floor f (suc n))
+  visit l m f n w tot tb (fixed' ps e) ll kf wk bud a = by (cases_Bool (o.has (f (log_box l)).bytes m.keep.me m.keep.chance m.keep.serial))
     where
       m1 : Mind
       m1 = hearing (asks m (show (log_box l)) (log l)).mind true
@@ -130,11 +147,11 @@ module _ (o : Ops) (p : Plan) (logs : ℕ) (P : Safe o p logs) (V : Live o p log
       few = let q = entries_few ps in let r = kf.few in let u : puts_of m.keep.batch ≡ length ps = ap puts_of e in omega (arith, q, r, u)
 
       by : (o.has (f (log_box l)).bytes m.keep.me m.keep.chance m.keep.serial ≡ true) ⊎ (o.has (f (log_box l)).bytes m.keep.me m.keep.chance m.keep.serial ≡ false) →
-          Less m.keep tot ⊎ (B (read_ledger o logs (looking m1 m.floor l 1)) f (suc (suc n)) × Stuck l m.floor f)
-      by (inl t) = let q = some_jobs m.keep l ps e in inl (settles m1 f (suc (suc n)) l ps m.keep tot (omega (arith, q)) (omega (arith, bud)) (subst (λ z. B z f (suc (suc n))) (cond-true (o.has (f (log_box l)).bytes m.keep.me m.keep.chance m.keep.serial) (settle o logs m1 ps) (putting o logs m1 m.keep l ps (f (log_box l))) t) a1))
-      by (inr t) = let q = some_jobs m.keep l ps e in puts m1 f (suc (suc n)) l ps m.keep m.keep tot tb ll few e (omega (arith, q)) (omega (arith, bud))
+          Less m.keep tot ⊎ (B (read_ledger o logs (looking m1 m.floor l 1)) f (suc (suc n)) × Stuck l m.floor f (suc n))
+      by (inl t) = let q = some_jobs m.keep l ps e in inl (settles m1 f (suc (suc n)) w ps m.keep tot (omega (arith, q)) wk (omega (arith, bud)) (subst (λ z. B z f (suc (suc n))) (cond-true (o.has (f (log_box l)).bytes m.keep.me m.keep.chance m.keep.serial) (settle o logs m1 ps) (putting o logs m1 m.keep l ps (f (log_box l))) t) a1))
+      by (inr t) = let q = some_jobs m.keep l ps e in puts m1 f (suc (suc n)) (suc n) l ps m.keep m.keep tot tb ll (kf.tag m.keep.serial (kf.from l ps e) (omega arith)) (entries_ok l ps (kf.puts l ps e)) few e (omega (arith, q)) (omega (arith, bud))
           (subst (λ z. B z f (suc (suc n))) (cond-false (o.has (f (log_box l)).bytes m.keep.me m.keep.chance m.keep.serial) (settle o logs m1 ps) (putting o logs m1 m.keep l ps (f (log_box l))) t) a1)
-  visit l m f n tot tb (first' j js e w fo) ll kf bud a = puts m1 f (suc (suc n)) l ps (fixed m.keep l ps left) m.keep tot tb ll few refl fw (omega (arith, bud))
+  visit l m f n w tot tb (first' j js e jw fo) ll kf wk bud a = puts m1 f (suc (suc n)) (suc n) l ps (fixed m.keep l ps left) m.keep tot tb ll (kf.tag (m.keep.serial + 1) (omega arith) (omega arith)) (entries_ok l ps put_all) few refl fw (omega (arith, bud))
       (subst (λ z. B (on_log_by o logs m1 l (f (log_box l)) z) f (suc (suc n))) e (see o logs all i c lt es s (log_box l) refl a))
     where
       m1 : Mind
@@ -151,8 +168,11 @@ module _ (o : Ops) (p : Plan) (logs : ℕ) (P : Safe o p logs) (V : Live o p log
 
       fw : length left < jobs_in m.keep
       fw = let q = drop_one (λ j. not (for_log l j.call)) j js (not_from_true (for_log l j.call) fo) in
-          let u : length left ≡ length (keep_if (λ j. not (for_log l j.call)) (j ∷ js)) = ap (λ z. length (keep_if (λ j. not (for_log l j.call)) z)) w in
-          let v : length m.keep.waiting ≡ suc (length js) = ap length w in omega (arith, q, u, v)
+          let u : length left ≡ length (keep_if (λ j. not (for_log l j.call)) (j ∷ js)) = ap (λ z. length (keep_if (λ j. not (for_log l j.call)) z)) jw in
+          let v : length m.keep.waiting ≡ suc (length js) = ap length jw in omega (arith, q, u, v)
+
+      put_all : (a : Job) → Memᴰ a ps → IsPut l a.call
+      put_all a y = let r = in_keep (λ j. for_log l j.call) m.keep.waiting a y in for_put logs l a.call r.1 (kf.ok a r.0)
 
   -- a log that is to be put into, until it is done
   idle_which : (l : ℕ) (m : Mind) (f : ℕ → Box) (n : ℕ) → Which l m.keep → B (idle o logs m) f n → B (asks m (show (log_box l)) (log l)) f n
@@ -164,9 +184,9 @@ module _ (o : Ops) (p : Plan) (logs : ℕ) (P : Safe o p logs) (V : Live o p log
       by (Out' x y) t a = absurd (both_ways false refl t)
       by (Drop x) t a = absurd (both_ways false refl t)
 
-  which_in : (l : ℕ) (k : Keep) → KeepFacts k → Which l k → l < logs
-  which_in l k kf (fixed' ps e) = kf.in_logs l ps e
-  which_in l k kf (first' j js e w fo) = by j.call fo (kf.ok j (subst (Memᴰ j) (sym w) (Memᴰ.head refl)))
+  which_in : (l n : ℕ) (k : Keep) → KeepFacts k n → Which l k → l < logs
+  which_in l n k kf (fixed' ps e) = kf.in_logs l ps e
+  which_in l n k kf (first' j js e w fo) = by j.call fo (kf.ok j (subst (Memᴰ j) (sym w) (Memᴰ.head refl)))
     where
       by : (x : Call) → for_log l x ≡ true → CallOk logs x → l < logs
       by (Put b y) t h = subst (λ z. z < logs) (eqb-true b l t) h.0
@@ -177,34 +197,42 @@ module _ (o : Ops) (p : Plan) (logs : ℕ) (P : Safe o p logs) (V : Live o p log
   less_on {k} {k'} {tot} e x = subst (λ z. Less z tot) e x
 
   -- with no room the ledger takes that log, and then there is room: so a put meets a full box at most once
-  put_round : (l : ℕ) (m : Mind) (f : ℕ → Box) (n tot : ℕ) → tot < P.bound → Which l m.keep → n + 12 * W0 f + 12 * V.heavy + 40 ≤ tot → B (idle o logs m) f n → Less m.keep tot
-  put_round l m f n tot tb w bud a0 = ⊎_elim (λ z. z) (λ z. again z.0) (visit l m f n tot tb w ll kf (omega (arith, bud)) a)
+  put_round : (l : ℕ) (m : Mind) (f : ℕ → Box) (n w tot : ℕ) → tot < P.bound → Which l m.keep → V.Work w f → n + 12 * w + 12 * heavy + 40 ≤ tot → B (idle o logs m) f n → Less m.keep tot
+  put_round l m f n w tot tb which wk bud a0 = ⊎_elim (λ z. z) (λ z. again z.0) (visit l m f n w tot tb which ll kf wk (omega (arith, bud)) a)
     where
       a : B (asks m (show (log_box l)) (log l)) f n
-      a = idle_which l m f n w a0
+      a = idle_which l m f n which a0
 
-      kf : KeepFacts m.keep
+      kf : KeepFacts m.keep n
       kf = keep_at a (omega (arith, bud, tb))
 
       ll : l < logs
-      ll = which_in l m.keep kf w
-
-      tot1 : ℕ
-      tot1 = n + 12 * W0 f + 26
+      ll = which_in l n m.keep kf which
 
       m1 : Mind
       m1 = looking (hearing (asks m (show (log_box l)) (log l)).mind true) m.floor l 1
 
       again : B (read_ledger o logs m1) f (suc (suc n)) → Less m.keep tot
       again b =
-          let d = ledger_done o p logs P V one all i c al lt es s tot1 (omega (arith, bud, tb)) (2 + W0 f) m1 f (suc (suc n)) ll b (omega arith) (omega arith) in
-          let w2 : Which l d.m.keep = subst (Which l) (sym d.keep) w in
+          let d = ledger_done o p logs P V one all i c al lt es s made (n + 12 * w + 26) (omega (arith, bud, tb)) (2 + w) m1 f (suc (suc n)) w ll b wk (omega arith) (omega arith) in
           let sp = d.spent in
-          let n2 : d.n < P.bound = omega (arith, sp, bud, tb) in
-          less_on d.keep (⊎_elim (λ z. z)
-          (λ z. absurd (V.adds_room n2 (snd d.at' n2).1 d.idle' z.1.0 z.1.1 z.1.2 l d.fl z.1.3 ll (d.took l ll (inl (inl refl))) z.1.4
-          (subst (λ u. o.adds u z.1.0 z.1.1 z.1.2 l (d.f (log_box l)).bytes z.1.3 ≡ lacks) d.floor z.1.5)))
-          (visit l d.m d.f d.n tot tb w2 ll (subst KeepFacts (sym d.keep) kf) (omega (arith, sp, bud)) (idle_which l d.m d.f d.n w2 d.at')))
+          less_on d.keep (taken d.m d.f d.n d.w d.fl (omega (arith, sp, bud)) (subst (Which l) (sym d.keep) which) d.work d.idle' (d.took l ll (inl (inl refl))) d.floor d.at')
+        where
+          -- once that log is taken there is room
+          taken : (m : Mind) (f : ℕ → Box) (n w : ℕ) (fl : List ℕ) → n + 12 * w + 12 * heavy + 14 ≤ tot → Which l m.keep → V.Work w f → o.due (f 0).bytes ≡ nothing → V.Took (f 0).bytes l (f (log_box l)).bytes → m.floor ≡ o.raise (f 0).bytes fl → B (idle o logs m) f n → Less m.keep tot
+          taken m f n w fl bud which wk idle' took is a0 = ⊎_elim (λ z. z) (λ z. absurd (full' z.1)) (visit l m f n w tot tb which ll (keep_at a (omega (arith, sm))) wk (omega (arith, bud)) a)
+            where
+              a : B (asks m (show (log_box l)) (log l)) f n
+              a = idle_which l m f n which a0
+
+              sm : suc n < P.bound
+              sm = omega (arith, bud, tb)
+
+              sd : (ls : List (List Entry)) × P.Sound n ls f × P.Floor ls f m.floor
+              sd = floor_at o p logs P V one all i c al lt es s made a (omega (arith, sm))
+
+              full' : Stuck l m.floor f (suc n) → ⊥
+              full' z = V.adds_room sm (P.laws.later sd.1) idle' z.0 z.1 z.2 l fl z.3 ll took (subst (P.Floor sd.0 f) is sd.2) z.4 z.5 z.6 (subst (λ u. o.adds u z.0 z.1 z.2 l (f (log_box l)).bytes z.3 ≡ lacks) is z.7)
 
   -- AN ANSWER
   abbrev pub gone' : Mind → (number : ℕ) → Mind
@@ -237,7 +265,7 @@ module _ (o : Ops) (p : Plan) (logs : ℕ) (P : Safe o p logs) (V : Live o p log
       sm : n < P.bound
       sm = omega (arith, bud, tb)
 
-      sd : (ls : List (List Entry)) × P.Sound n ls f
+      sd : (ls : List (List Entry)) × P.Sound n ls f × (total ls ≤ calls es)
       sd = snd a sm
 
       by : Again → (x : Next) → o.answer from most (f 0).bytes got ≡ x → B (gather_by o logs m k from most (f 0).bytes got x) f n → Answered m.keep f top k from most
@@ -253,49 +281,51 @@ module _ (o : Ops) (p : Plan) (logs : ℕ) (P : Safe o p logs) (V : Live o p log
           m1 : Mind
           m1 = hearing (asks m (show b) (gather k from most (f 0).bytes got b)).mind true
 
-  pub ask_answer : (m : Mind) (f : ℕ → Box) (n k from most top : ℕ) → top < P.bound → n + 2 * V.long + 4 ≤ top → B (asks m (show 0) (answer' k from most)) f n → Answered m.keep f top k from most
-  ask_answer m f n k from most top tb bud a = let q = V.left_most from most (f 0).bytes [] in
+  pub ask_answer : (m : Mind) (f : ℕ → Box) (n k from most top : ℕ) → most ≤ 1024 → top < P.bound → n + 2 * V.long + 4 ≤ top → B (asks m (show 0) (answer' k from most)) f n → Answered m.keep f top k from most
+  ask_answer m f n k from most top le tb bud a = let q = V.left_most from most (f 0).bytes [] le in
       answers (suc V.long) (hearing (asks m (show 0) (answer' k from most)).mind true) f (suc (suc n)) k from most [] top tb (omega (arith, q)) (omega (arith, bud)) no_page (see o logs all i c lt es s 0 refl a)
 
-  abbrev pub C : ℕ
-  C = 12 * V.heavy + 12 * V.long + 40
+  -- what a round may cost
+  abbrev C : ℕ
+  C = 12 * heavy + 2 * V.long + 40
 
   -- a round for what came out
-  out_round : (m : Mind) (f : ℕ → Box) (n tot : ℕ) (j : Job) (js : List Job) (from most : ℕ) → tot < P.bound → m.keep.waiting ≡ j ∷ js → n + 12 * W0 f + C ≤ tot → B (asks m (show 0) (answer' j.number from most)) f n → Less m.keep tot
-  out_round m f n tot j js from most tb w bud a =
-      let r = ask_answer m f n j.number from most (n + 2 * V.long + 4) (omega (arith, bud, tb)) (omega arith) a in
+  out_round : (m : Mind) (f : ℕ → Box) (n w tot : ℕ) (j : Job) (js : List Job) (from most : ℕ) → most ≤ 1024 → tot < P.bound → m.keep.waiting ≡ j ∷ js → V.Work w f → n + 12 * w + C ≤ tot → B (asks m (show 0) (answer' j.number from most)) f n → Less m.keep tot
+  out_round m f n w tot j js from most le tb jw wk bud a =
+      let r = ask_answer m f n j.number from most (n + 2 * V.long + 4) le (omega (arith, bud, tb)) (omega arith) a in
       let st = r.steps in
       let q = drop_one (λ a. not (eqb a.number j.number)) j js (not_from_true (eqb j.number j.number) (eq-eqb j.number j.number refl)) in
-      let u : length (keep_if (λ a. not (eqb a.number j.number)) r.m.keep.waiting) ≡ length (keep_if (λ a. not (eqb a.number j.number)) (j ∷ js)) = ap (λ z. length (keep_if (λ a. not (eqb a.number j.number)) z)) (ap (λ z. z.waiting) r.keep ∙ w) in
-      let v : length m.keep.waiting ≡ suc (length js) = ap length w in
+      let u : length (keep_if (λ a. not (eqb a.number j.number)) r.m.keep.waiting) ≡ length (keep_if (λ a. not (eqb a.number j.number)) (j ∷ js)) = ap (λ z. length (keep_if (λ a. not (eqb a.number j.number)) z)) (ap (λ z. z.waiting) r.keep ∙ jw) in
+      let v : length m.keep.waiting ≡ suc (length js) = ap length jw in
       let x : batch_one r.m.keep.batch ≡ batch_one m.keep.batch = ap (λ z. batch_one z.batch) r.keep in
-      record { m = gone' r.m j.number; f = f; n = r.n; at' = unsay (record { number = j.number; reply = Outs r.es' } ∷ []) (quiet_idle (gone' r.m j.number) r.m.keep.batch (keep_if (λ a. not (eqb a.number j.number)) r.m.keep.waiting)) r.at'; fewer = omega (arith, q, u, v, x); spent = omega (arith, st, bud) }
+      record { m = gone' r.m j.number; f = f; n = r.n; at' = unsay (record { number = j.number; reply = Outs r.es' } ∷ []) (quiet_idle (gone' r.m j.number) r.m.keep.batch (keep_if (λ a. not (eqb a.number j.number)) r.m.keep.waiting)) r.at'; fewer = omega (arith, q, u, v, x); w = w; work = wk; spent = omega (arith, st, bud) }
 
   -- ALL ROUNDS
   abbrev Empty : Keep → Type 0
   Empty k = (k.batch ≡ none) × (k.waiting ≡ [])
 
   -- any round
-  round : (m : Mind) (f : ℕ → Box) (n tot : ℕ) → tot < P.bound → n + 12 * W0 f + C ≤ tot → B (idle o logs m) f n → Less m.keep tot ⊎ Empty m.keep
-  round m f n tot tb bud a = by m.keep.batch m.keep.waiting refl refl
+  round : (m : Mind) (f : ℕ → Box) (n w tot : ℕ) → tot < P.bound → V.Work w f → n + 12 * w + C ≤ tot → B (idle o logs m) f n → Less m.keep tot ⊎ Empty m.keep
+  round m f n w tot tb wk bud a = by m.keep.batch m.keep.waiting refl refl
     where
-      call : (j : Job) (js : List Job) → m.keep.batch ≡ none → m.keep.waiting ≡ j ∷ js → (x : Call) → j.call ≡ x → Less m.keep tot
-      call j js b w (Put l e) x = put_round l m f n tot tb (first' j js b w (ap (for_log l) x ∙ eq-eqb l l refl)) (omega (arith, bud)) a
-      call j js b w (Out' y z) x = out_round m f n tot j js y z tb w bud (subst (λ u. B (start_call o logs m j.number u) f n) x (subst₂ (λ y z. B (idle_by o logs m y z) f n) b w a))
-      call j js b w (Drop y) x = absurd (subst (CallOk logs) x ((keep_at (subst₂ (λ y z. B (idle_by o logs m y z) f n) b w a) (omega (arith, bud, tb))).ok j (call_in j js b w)))
-        where
-          call_in : (j : Job) (js : List Job) → m.keep.batch ≡ none → m.keep.waiting ≡ j ∷ js → Memᴰ j (start_call o logs m j.number j.call).mind.keep.waiting
-          call_in j js b w = subst (Memᴰ j) (sym (same j.call ∙ w)) (Memᴰ.head refl)
-            where
-              same : (x : Call) → (start_call o logs m j.number x).mind.keep.waiting ≡ m.keep.waiting
-              same (Put l e) = refl
-              same (Out' y z) = refl
-              same (Drop y) = refl
+      same : (k : ℕ) (x : Call) → (start_call o logs m k x).mind.keep.waiting ≡ m.keep.waiting
+      same k (Put l e) = refl
+      same k (Out' y z) = refl
+      same k (Drop y) = refl
+
+      -- the call that waits longest was let in
+      let_in : (j : Job) (js : List Job) → m.keep.batch ≡ none → m.keep.waiting ≡ j ∷ js → CallOk logs j.call
+      let_in j js b jw = (keep_at (subst₂ (λ y z. B (idle_by o logs m y z) f n) b jw a) (omega (arith, bud, tb))).ok j (subst (Memᴰ j) (sym (same j.number j.call ∙ jw)) (Memᴰ.head refl))
+
+      call : (j : Job) (js : List Job) → m.keep.batch ≡ none → m.keep.waiting ≡ j ∷ js → (x : Call) → j.call ≡ x → CallOk logs x → Less m.keep tot
+      call j js b jw (Put l e) x ok = put_round l m f n w tot tb (first' j js b jw (ap (for_log l) x ∙ eq-eqb l l refl)) wk (omega (arith, bud)) a
+      call j js b jw (Out' y z) x ok = out_round m f n w tot j js y z ok tb jw wk bud (subst (λ u. B (start_call o logs m j.number u) f n) x (subst₂ (λ y z. B (idle_by o logs m y z) f n) b jw a))
+      call j js b jw (Drop y) x ok = absurd ok
 
       by : (b : Batch) (js : List Job) → m.keep.batch ≡ b → m.keep.waiting ≡ js → Less m.keep tot ⊎ Empty m.keep
-      by (some l ps) js e w = inl (put_round l m f n tot tb (fixed' ps e) (omega (arith, bud)) a)
-      by none [] e w = inr (e, w)
-      by none (j ∷ js) e w = inl (call j js e w j.call refl)
+      by (some l ps) js e jw = inl (put_round l m f n w tot tb (fixed' ps e) wk (omega (arith, bud)) a)
+      by none [] e jw = inr (e, jw)
+      by none (j ∷ js) e jw = inl (call j js e jw j.call refl (let_in j js e jw))
 
   pub record Rested (tot : ℕ) : Type 0 where
     pub m : Mind
@@ -303,24 +333,26 @@ module _ (o : Ops) (p : Plan) (logs : ℕ) (P : Safe o p logs) (V : Live o p log
     pub n : ℕ
     pub at' : B (idle o logs m) f n
     pub empty : Empty m.keep
-    pub spent : n + 12 * W0 f ≤ tot
+    pub w : ℕ
+    pub work : V.Work w f
+    pub spent : n + 12 * w ≤ tot
 
   abbrev cost : ℕ → ℕ
   cost zero = C
   cost (suc j) = C + cost j
 
   -- round after round, until nothing waits
-  ends : (j : ℕ) (m : Mind) (f : ℕ → Box) (n tot : ℕ) → tot < P.bound → jobs_in m.keep ≤ j → n + 12 * W0 f + cost j ≤ tot → B (idle o logs m) f n → Rested tot
-  ends zero m f n tot tb few bud a = ⊎_elim (λ d. absurd (let q = d.fewer in omega (arith, q, few))) (λ e. record { m = m; f = f; n = n; at' = a; empty = e; spent = omega (arith, bud) }) (round m f n (n + 12 * W0 f + C) (omega (arith, bud, tb)) (omega arith) a)
-  ends (suc j) m f n tot tb few bud a = ⊎_elim (λ d. let q = d.fewer in let sp = d.spent in ends j d.m d.f d.n tot tb (omega (arith, q, few)) (omega (arith, sp, bud)) d.at') (λ e. record { m = m; f = f; n = n; at' = a; empty = e; spent = omega (arith, bud) })
-      (round m f n (n + 12 * W0 f + C) (omega (arith, bud, tb)) (omega arith) a)
+  ends : (j : ℕ) (m : Mind) (f : ℕ → Box) (n w tot : ℕ) → tot < P.bound → jobs_in m.keep ≤ j → V.Work w f → n + 12 * w + cost j ≤ tot → B (idle o logs m) f n → Rested tot
+  ends zero m f n w tot tb few wk bud a = ⊎_elim (λ d. absurd (let q = d.fewer in omega (arith, q, few))) (λ e. record { m = m; f = f; n = n; at' = a; empty = e; w = w; work = wk; spent = omega (arith, bud) }) (round m f n w (n + 12 * w + C) (omega (arith, bud, tb)) wk (omega arith) a)
+  ends (suc j) m f n w tot tb few wk bud a = ⊎_elim (λ d. let q = d.fewer in let sp = d.spent in ends j d.m d.f d.n d.w tot tb (omega (arith, q, few)) d.work (omega (arith, sp, bud)) d.at')
+      (λ e. record { m = m; f = f; n = n; at' = a; empty = e; w = w; work = wk; spent = omega (arith, bud) }) (round m f n w (n + 12 * w + C) (omega (arith, bud, tb)) wk (omega arith) a)
 
   -- THE LOOK OVER ALL LOGS
-  next_is : (pl : ℕ) → pl + 1 < logs → next o p logs P V one all i c al lt es s pl ≡ pl + 1
+  next_is : (pl : ℕ) → pl + 1 < logs → next o p logs P V one all i c al lt es s made pl ≡ pl + 1
   next_is pl h = cond-true (ltb (pl + 1) logs) (pl + 1) 0 (lt-ltb (pl + 1) logs h)
 
   abbrev Ahead : (left place log : ℕ) → Type 0
-  Ahead k pl l = ahead o p logs P V one all i c al lt es s k pl l
+  Ahead k pl l = ahead o p logs P V one all i c al lt es s made k pl l
 
   ahead_up : (d pl more l : ℕ) → l ≡ pl + d → l < logs → Ahead (suc (d + more)) pl l
   ahead_up zero pl more l e ll = inl (omega (arith, e))
@@ -357,7 +389,7 @@ module _ (o : Ops) (p : Plan) (logs : ℕ) (P : Safe o p logs) (V : Live o p log
     pub empty : (m.keep.batch ≡ none) × (m.keep.waiting ≡ [])
     pub idle' : o.due (f 0).bytes ≡ nothing
     pub took : (l : ℕ) → l < logs → V.Took (f 0).bytes l (f (log_box l)).bytes
-    pub spent : n + 12 * W0 f ≤ tot
+    pub spent : n ≤ tot
 
   abbrev looks_all : Mind → Mind
   looks_all m = looking m m.floor (cond (ltb m.place logs) m.place 0) logs
@@ -366,16 +398,17 @@ module _ (o : Ops) (p : Plan) (logs : ℕ) (P : Safe o p logs) (V : Live o p log
   to_rest m f n e a = subst₂ (λ y z. B (idle_by o logs m y z) f n) e.0 e.1 a
 
   -- then a look at every log
-  full : (m : Mind) (f : ℕ → Box) (n tot : ℕ) → tot < P.bound → (m.keep.batch ≡ none) × (m.keep.waiting ≡ []) → n + 12 * W0 f + 12 * logs + 12 ≤ tot → B (read_ledger o logs (looks_all m)) f n → Final tot
-  full m f n tot tb e bud a =
-      let d = ledger_done o p logs P V one all i c al lt es s tot tb (suc (logs + W0 f)) (looks_all m) f n (place_in m.place) a (omega arith) (omega (arith, bud)) in
+  full : (m : Mind) (f : ℕ → Box) (n w tot : ℕ) → tot < P.bound → (m.keep.batch ≡ none) × (m.keep.waiting ≡ []) → V.Work w f → n + 12 * w + 12 * logs + 12 ≤ tot → B (read_ledger o logs (looks_all m)) f n → Final tot
+  full m f n w tot tb e wk bud a =
+      let d = ledger_done o p logs P V one all i c al lt es s made tot tb (suc (logs + w)) (looks_all m) f n w (place_in m.place) a wk (omega arith) (omega (arith, bud)) in
+      let sp = d.spent in
       let e2 : (d.m.keep.batch ≡ none) × (d.m.keep.waiting ≡ []) = (ap (λ z. z.batch) d.keep ∙ e.0, ap (λ z. z.waiting) d.keep ∙ e.1) in
-      record { m = d.m; f = d.f; n = d.n; at' = to_rest d.m d.f d.n e2 d.at'; empty = e2; idle' = d.idle'; took = λ l ll. d.took l ll (inl (ahead_all (cond (ltb m.place logs) m.place 0) l (place_in m.place) ll)); spent = d.spent }
+      record { m = d.m; f = d.f; n = d.n; at' = to_rest d.m d.f d.n e2 d.at'; empty = e2; idle' = d.idle'; took = λ l ll. d.took l ll (inl (ahead_all (cond (ltb m.place logs) m.place 0) l (place_in m.place) ll)); spent = omega (arith, sp) }
 
   -- from rest, once more
-  final : (m : Mind) (f : ℕ → Box) (n tot : ℕ) → tot < P.bound → (m.keep.batch ≡ none) × (m.keep.waiting ≡ []) → n + 12 * W0 f + 12 * logs + 13 ≤ tot → B (idle o logs m) f n → Final tot
+  final : (m : Mind) (f : ℕ → Box) (n w tot : ℕ) → tot < P.bound → (m.keep.batch ≡ none) × (m.keep.waiting ≡ []) → V.Work w f → n + 12 * w + 12 * logs + 13 ≤ tot → B (idle o logs m) f n → Final tot
   unfolding acts
-  final m f n tot tb e bud a = full m1 f (suc n) tot tb e (omega (arith, bud)) (subst₂ (λ y z. B (start_by o logs m1 y z) f (suc n)) e.0 e.1 (mid_turn o logs all i c lt es s (to_rest m f n e a).mid Beat a_beat))
+  final m f n w tot tb e wk bud a = full m1 f (suc n) w tot tb e wk (omega (arith, bud)) (subst₂ (λ y z. B (start_by o logs m1 y z) f (suc n)) e.0 e.1 (mid_turn o logs all i c lt es s (to_rest m f n e a).mid Beat a_beat))
     where
       m1 : Mind
       m1 = hearing (asks m none' rest).mind false
@@ -395,19 +428,19 @@ module _ (o : Ops) (p : Plan) (logs : ℕ) (P : Safe o p logs) (V : Live o p log
       by (Drop y) = refl
 
   -- FROM ANY MIND, at its first showing
-  pub all_ends : (m : Mind) (f : ℕ → Box) (n tot : ℕ) → tot < P.bound → n + 12 * W0 f + (12 * logs + 20) + cost 9 + (12 * logs + 20) ≤ tot → B (start o logs m) f n → Final tot
-  all_ends m f n tot tb bud a = by m.keep.batch m.keep.waiting refl refl a
+  pub all_ends : (m : Mind) (f : ℕ → Box) (n w tot : ℕ) → tot < P.bound → V.Work w f → n + 12 * w + (12 * logs + 20) + cost 9 + (12 * logs + 20) ≤ tot → B (start o logs m) f n → Final tot
+  all_ends m f n w tot tb wk bud a = by m.keep.batch m.keep.waiting refl refl a
     where
-      kf : KeepFacts m.keep
-      kf = subst KeepFacts (kept_start m m.keep.batch m.keep.waiting) (keep_at a (omega (arith, bud, tb)))
+      kf : KeepFacts m.keep n
+      kf = subst (λ k. KeepFacts k n) (kept_start m m.keep.batch m.keep.waiting) (keep_at a (omega (arith, bud, tb)))
 
       jobs : jobs_in m.keep ≤ 9
       jobs = few_jobs m.keep m.keep.batch refl kf.few
 
       go : B (idle o logs m) f n → Final tot
-      go a = let r = ends 9 m f n (n + 12 * W0 f + cost 9) (omega (arith, bud, tb)) jobs (omega arith) a in let sp = r.spent in final r.m r.f r.n tot tb r.empty (omega (arith, sp, bud)) r.at'
+      go a = let r = ends 9 m f n w (n + 12 * w + cost 9) (omega (arith, bud, tb)) jobs wk (omega arith) a in let sp = r.spent in final r.m r.f r.n r.w tot tb r.empty r.work (omega (arith, sp, bud)) r.at'
 
       by : (b : Batch) (js : List Job) → m.keep.batch ≡ b → m.keep.waiting ≡ js → B (start_by o logs m b js) f n → Final tot
-      by (some l ps) js e w a = go (subst₂ (λ y z. B (idle_by o logs m y z) f n) (sym e) (sym w) a)
-      by none (j ∷ js) e w a = go (subst₂ (λ y z. B (idle_by o logs m y z) f n) (sym e) (sym w) a)
-      by none [] e w a = full m f n tot tb (e, w) (omega (arith, bud)) a
+      by (some l ps) js e jw a = go (subst₂ (λ y z. B (idle_by o logs m y z) f n) (sym e) (sym jw) a)
+      by none (j ∷ js) e jw a = go (subst₂ (λ y z. B (idle_by o logs m y z) f n) (sym e) (sym jw) a)
+      by none [] e jw a = full m f n w tot tb (e, jw) wk (omega (arith, bud)) a

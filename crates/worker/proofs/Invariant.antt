@@ -249,6 +249,14 @@ module _ (o : Ops) (p : Plan) (logs : ℕ) (L : Laws o p logs) where
     pub facts : (a : Way ℕ) → Memᴰ a v.ways → Fact v.w v.co v.hand a
     pub hands : (i d : ℕ) (m : Mind) → v.hand i ≡ here d m → HandOk v i d m
 
+  -- a page that is filled holds what it must; so one that a due step calls for holds what it is to be filled with
+  pub must_now : (v : View) → Good v → (b : ℕ) → IsPage b → 1 ≤ (v.co.f b).edition → L.Must v.w b (v.co.f b).bytes
+  must_now v h b pg one = subst (L.Must v.w b) (h.now b) ((h.hist b (v.co.f b).edition (omega arith)).must pg one)
+
+  pub page_held : (v : View) → Good v → (x : List ℕ) → Right (L.Must v.w) (o.due (v.co.f 0).bytes) x → (a : Filling) → Memᴰ a (o.pages (v.co.f 0).bytes x) → 1 ≤ (v.co.f a.box).edition → (v.co.f a.box).bytes ≡ a.bytes
+  page_held v h x r a m one = let q = L.must_of h.sound (v.co.f 0).bytes x (L.was_now h.sound 0) r a m in
+      L.must_one h.sound a.box (v.co.f a.box).bytes a.bytes (must_now v h a.box q.1 one) q.0
+
   -- BOXES GO ON: editions rise, and of one edition there is one content
   pub record Boxes (u w : L.World) (f g : ℕ → Box) : Type 0 where
     pub ups : L.Upto u w
@@ -594,11 +602,7 @@ module _ (o : Ops) (p : Plan) (logs : ℕ) (L : Laws o p logs) where
         at_least a (inr y) = elim y [ ]
 
         pages' : (a : Filling) → Memᴰ a (o.pages (v.co.f 0).bytes x.shown) → (1 ≤ (v.co.f a.box).edition) × ((v.co.f a.box).bytes ≡ a.bytes)
-        pages' a m =
-            let one : 1 ≤ (v.co.f a.box).edition = at_least a (x.todo a (subst (λ z. Memᴰ a (o.pages z x.shown)) is m)) in
-            let must = L.must_of h.sound (v.co.f 0).bytes x.shown (L.was_now h.sound 0) right' a m in
-            let held : L.Must v.w a.box (v.co.f a.box).bytes = subst (L.Must v.w a.box) (h.now a.box) ((h.hist a.box (v.co.f a.box).edition (omega arith)).must must.1 one) in
-            (one, L.must_one h.sound a.box (v.co.f a.box).bytes a.bytes held must.0)
+        pages' a m = let one = at_least a (x.todo a (subst (λ z. Memᴰ a (o.pages z x.shown)) is m)) in (one, page_held v h x.shown right' a m one)
 
     module _ (l e s : ℕ) (ps : List Job) (fl old bs : List ℕ) (now : e ≡ (v.co.f (log_box l)).edition) (dr : is_in c v.co.drawn ≡ true) (lt : l < logs) (is : (v.co.f (log_box l)).bytes ≡ old) (floor : L.Floor v.w fl)
         (adds : o.adds fl i c s l old (entries ps) ≡ gives bs) (tag : Tag v.co.n i c s) (distinct : Distinct ps) (puts : Puts l ps) (made : Made v.co.seen i ps) (few : length (entries ps) ≤ 8) (opened : Opened v.co.opens i ps)

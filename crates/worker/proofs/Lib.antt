@@ -1,6 +1,7 @@
 pub mod Laws
 pub mod Jobs
 pub mod Invariant
+pub mod Entries
 pub mod Onebook
 pub mod Busy
 pub mod Safelaws

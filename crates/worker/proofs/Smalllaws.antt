@@ -148,7 +148,7 @@ replies x y e = cc
 pub small_safe : (p : Plan) (logs : ℕ) → logs ≤ 256 → Safe small p logs
 unfolding first_of all_bytes
 small_safe p logs lg = record {
-  bound = 72057594037927936 + 24 * logs + 1000;
+  bound = 72057594037927936 + 24 * logs + 2000;
   far = omega arith;
   Sound = λ n ls f. Fine f;
   OldLedger = λ ls f x. Unit {0};
@@ -256,30 +256,42 @@ take_less [] [] t = absurd (both_ways (small_differs [] []) (differs_self []) t)
 take_less [] (a ∷ x) t = omega arith
 take_less (z ∷ y) x t = absurd (both_ways (small_differs (z ∷ y) (z ∷ y)) (differs_self (z ∷ y)) t)
 
+-- so much is left to do at most, by the ledger alone
+abbrev Left : ℕ → (ℕ → Box) → Type 0
+Left w f = small_work (f 0).bytes ≤ w
+
+left_led : (f : ℕ → Box) (e w : ℕ) (y : List ℕ) → small_work y ≤ w → Left w (at 0 (record { edition = e; bytes = y }) f)
+left_led f e w y h = subst (λ z. small_work z.bytes ≤ w) (sym (at_self 0 (record { edition = e; bytes = y }) f)) h
+
+-- a ledger with less to do
+left_less : (f : ℕ → Box) (e w : ℕ) (y : List ℕ) → small_work y < small_work (f 0).bytes → Left w f → (v : ℕ) × (v < w) × Left v (at 0 (record { edition = e; bytes = y }) f)
+left_less f e w y less h = (small_work y, omega (arith, less, h), left_led f e (small_work y) y (omega arith))
+
 pub small_live : (p : Plan) (logs : ℕ) (lg : logs ≤ 256) → Live small p logs (small_safe p logs lg)
 unfolding small_safe
 small_live p logs lg = record {
-  work = λ l f. small_work l;
-  heavy = 0;
+  Work = Left;
+  heavy = λ e. 3;
   long = 0;
   left = λ from most l got. 0;
   Took = λ y l b. Unit {0};
-  enough = λ {n} {ls} {f} sm h. let q = work_most (f 0).bytes in omega (arith, sm, q);
-  fits = λ {n} {ls} {f} sm h b kd. fits_of (f b).bytes (h.few b).0 (h.few b).1;
+  enough = λ e le. omega arith;
+  fits = λ {n} {ls} {f} sm h few b kd. fits_of (f b).bytes (h.few b).0 (h.few b).1;
+  work_most = λ {n} {ls} {f} sm h e le. work_most (f 0).bytes;
+  work_page = λ {n} {ls} {f} sm h x now a m e w wk. subst (λ z. small_work z.bytes ≤ w) (sym (at_other a.box (record { edition = 1; bytes = a.bytes }) f 0 (λ z. (pages_are (f 0).bytes x a m).0.0 (sym z)))) wk;
+  work_step = λ {n} {ls} {f} sm h x now ps e w wk. left_less f e w (small_after (f 0).bytes) (work_less f (f 0).bytes x now) wk;
+  work_take = λ {n} {ls} {f} sm h d l y ll e t g w wk. let q = gives_are (small_take (f 0).bytes (f (log_box l)).bytes) y e in
+      left_less f g w y (subst (λ z. small_work z < small_work (f 0).bytes) q (take_less (f 0).bytes (f (log_box l)).bytes (ap (small_differs (f 0).bytes) q ∙ t))) wk;
+  work_same = λ {f} e w wk. left_led f e w (f 0).bytes wk;
   few_pages = few_of;
-  work_led = λ x b f. refl;
-  work_page = λ {n} {ls} {f} sm h x now a m e. omega arith;
-  work_step = λ {n} {k} {ls} {ms} {f} e sm sk h x now h'. work_less f (f 0).bytes x now;
   step_differs = λ {n} {ls} {f} sm h x now. after_other f (f 0).bytes x now;
   took_step = λ {n} {ls} {f} sm h x now l t. tt;
   differs_not = not_differs;
   take_gives = λ {n} {ls} {f} sm h d l ll e. let z : ◌≡◌ {A = ℕ} 0 1 = cc in omega arith;
-  work_take = λ {n} {ls} {f} sm h d l y ll e t. let q = gives_are (small_take (f 0).bytes (f (log_box l)).bytes) y e in subst (λ z. small_work z < small_work (f 0).bytes) q (take_less (f 0).bytes (f (log_box l)).bytes (ap (small_differs (f 0).bytes) q ∙ t));
   took_take = λ {n} {ls} {f} sm h d l y ll e u. tt;
-  took_other = λ {n} {ls} {f} sm h d l y ll e k t. tt;
-  adds_room = λ {n} {ls} {f} sm h d i c s l fl es ll t few e. let z : ◌≡◌ {A = ℕ} 0 1 = cc in omega arith;
-  work_put = λ {n} {k} {ls} {ms} {f} e sm sk h i c s l fl bs es ll few g h'. omega arith;
-  left_most = λ from most l got. omega arith;
+  took_other = λ {n} {ls} {f} sm h d l y ll e k kl t. tt;
+  adds_room = λ {n} {ls} {f} sm h d i c s l fl es ll t fo tag ok few e. let z : ◌≡◌ {A = ℕ} 0 1 = cc in omega arith;
+  left_most = λ from most l got le. omega arith;
   left_less = λ {n} {ls} {f} sm h from most b got e. absurd (let z : ◌≡◌ {A = ℕ} 0 1 = cc in omega arith);
 }
 
@@ -309,7 +321,7 @@ silent ls = ap (λ z. as_events (ended (mark 0 ls) z)) (no_cells (all_in_time 0 
 pub small_within : SmallWithin
 unfolding small_live
 small_within p logs one lg all n al sm es s g i c m lt e = let r = worker_within small p logs (small_safe p logs lg) (small_live p logs lg) one all n al sm es s g i c m lt e in
-    (r.0, r.1, r.2, r.3, r.4, (let q = r.5 in let w = work_most (s.box 0).bytes in omega (arith, q, w)), r.6)
+    (r.0, r.1, r.2, r.3, r.4, (let q = r.5 in omega (arith, q)), r.6)
 
 -- the small book keeps the interface
 pub small_keeps : KeepsInterface Silent smalls

@@ -98,7 +98,7 @@ SmallOneIsEnough = (p : Plan) (logs : ℕ) → 1 ≤ logs → logs ≤ 256 → O
 abbrev pub SmallWithin : Type 0
 SmallWithin =
     (p : Plan) (logs : ℕ) → 1 ≤ logs → logs ≤ 256 → (all n : ℕ) → all ≤ 64 → n < 72057594037927936 → (es : List (Seen Call Reply)) (s : Scene Mind ℕ) → Goes (workers smalls p logs) all n es s → (i c : ℕ) (m : Mind) → i < all → s.hand i ≡ here c m →
-    (fs : List (Seen Call Reply)) × (t : Scene Mind ℕ) × (k : ℕ) × Alone (workers smalls p logs) i s fs t × Goes (workers smalls p logs) all k (fs ++ es) t × (k ≤ n + 24 * logs + 478) × (count_at i t.waits ≡ 0)
+    (fs : List (Seen Call Reply)) × (t : Scene Mind ℕ) × (k : ℕ) × Alone (workers smalls p logs) i s fs t × Goes (workers smalls p logs) all k (fs ++ es) t × (k ≤ n + 24 * logs + 838) × (count_at i t.waits ≡ 0)
 
 -- Plans of which nothing comes out: the small book, which keeps no events, has nothing to answer. There are such plans.
 abbrev pub Silent : Plans

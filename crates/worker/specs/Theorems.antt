@@ -9,6 +9,7 @@ use Rattle.streams.specs.Promise.{streams, Plans, AllPlans, ComesOut, Whole, Cor
 use Rattle.book.specs.Ledger.{log_box}
 use Rattle.book.specs.Interface.{Ops, nothing, Safe}
 use Rattle.book.specs.Live.{Live, AnswersAll}
+use Rattle.shelf.specs.Moments.{calls}
 use Rattle.worker.specs.Worker.{Mind, worker, workers}
 
 -- customers see one book-keeper, and only a ninth call is handed back
@@ -20,11 +21,11 @@ abbrev pub WorkerEnds : Type 1
 WorkerEnds = (o : Ops) (p : Plan) (logs : ℕ) (P : Safe o p logs) → Live o p logs P → 1 ≤ logs → OneIsEnough (worker o logs)
 
 -- how soon: alone, any one worker comes to where nothing waits at it, nothing is due and all logs are taken, within so many steps. A step is a
--- turn of the worker or an answer of the store, and `work` is what the book says is left to do.
+-- turn of the worker or an answer of the store, and `heavy` is the most that the book says can be left to do with as many entries as calls were made.
 abbrev pub WorkerWithin : Type 1
 WorkerWithin =
     (o : Ops) (p : Plan) (logs : ℕ) (P : Safe o p logs) (V : Live o p logs P) → 1 ≤ logs → (all n : ℕ) → all ≤ 64 → n < 72057594037927936 → (es : List (Seen Call Reply)) (s : Scene Mind ℕ) → Goes (worker o logs) all n es s → (i c : ℕ) (m : Mind) → i < all → s.hand i ≡ here c m →
-    (fs : List (Seen Call Reply)) × (t : Scene Mind ℕ) × (k : ℕ) × Alone (worker o logs) i s fs t × Goes (worker o logs) all k (fs ++ es) t × (k ≤ n + 12 * V.work (s.box 0).bytes s.box + 120 * V.heavy + 120 * V.long + 24 * logs + 442) × (count_at i t.waits ≡ 0) ×
+    (fs : List (Seen Call Reply)) × (t : Scene Mind ℕ) × (k : ℕ) × Alone (worker o logs) i s fs t × Goes (worker o logs) all k (fs ++ es) t × (k ≤ n + 132 * V.heavy (calls es) + 20 * V.long + 24 * logs + 442) × (count_at i t.waits ≡ 0) ×
     (o.due (t.box 0).bytes ≡ nothing) × ((l : ℕ) → l < logs → V.Took (t.box 0).bytes l (t.box (log_box l)).bytes)
 
 -- a book for each plan and number of logs, that keeps the interface
