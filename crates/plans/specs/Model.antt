@@ -1,6 +1,6 @@
 -- What the values of the code stand for in the definitions of the meaning.
 -- Assumes nothing.
-use Rattle.std.specs.Prelude.{map, vec_items}
+use Rattle.std.specs.Prelude.{ℕ, List, map, vec_items, slice_index}
 use Rattle.streams.specs.Meaning as spec
 use Rattle.plans.specs.declared.entries.Event.{Event}
 use Rattle.plans.specs.declared.entries.Entry.{Entry}
@@ -14,6 +14,13 @@ use Rattle.plans.specs.declared.stages.Plan.{Plan}
 
 abbrev pub as_event : Event → spec.Event
 as_event e = record { time = e.time.0; key = e.key.0; value = e.value.0 }
+
+-- the event in its words, and all events in memory
+abbrev pub event_in : List ℕ → spec.Event
+event_in ws = record { time = slice_index ws 0; key = slice_index ws 1; value = slice_index ws 2 }
+
+abbrev pub events_of : List (List ℕ) → List spec.Event
+events_of slots = map event_in slots
 
 abbrev pub entry_of : Entry → spec.Entry
 entry_of (Happened e) = spec.Ev (as_event e)
