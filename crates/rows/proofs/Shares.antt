@@ -94,7 +94,7 @@ below_low range k h = rw (lt_yes k (key_of range.low) h) refl
 from_low : (range : KeyRange) (k : Key) → Upto (key_of range.low) k → within range k ≡ is_below range.high k
 from_low range k h = rw (lt_no k (key_of range.low) h) refl
 
-each_all : {P : Key → Type 0} → ((k : Key) → P k) → (rs : List Row) → Each P rs
+pub each_all : {P : Key → Type 0} → ((k : Key) → P k) → (rs : List Row) → Each P rs
 each_all f [] = tt
 each_all f (r ∷ rs) = (f r.at, each_all f rs)
 
