@@ -1,0 +1,2 @@
+mod Most
+mod Cases
