@@ -1,0 +1,4 @@
+mod Items
+mod Readers
+mod Fronts
+mod Forms

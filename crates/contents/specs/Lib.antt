@@ -1,0 +1,3 @@
+pub mod Flat
+pub mod Form
+pub mod Model
