@@ -3,7 +3,7 @@
 // How much room is lent no type can say, so each method says that it stays.
 #![tactic(auto)]
 
-ghost use Rattle.std.specs.Prelude.{◌≡◌, ◌+◌, ◌<◌, ◌≤◌, ◌++◌, length, take, drop, slice_set};
+ghost use Rattle.std.specs.Prelude.{◌≡◌, ◌+◌, ◌<◌, ◌≤◌, [], ◌∷◌, ◌++◌, length, take, drop, slice_set};
 
 use std::marker::Model;
 use std::ops::Range;
@@ -37,6 +37,13 @@ impl<'a, T: Copy> Table<'a, T> {
         Table { slots, count }
     }
 
+    // How many items there is room for.
+    pub fn room(&self) -> usize
+        ensures { result ≡ self.now.room }
+    {
+        self.slots.len()
+    }
+
     pub fn as_slice(&self) -> &[T]
         ensures items { result.now ≡ self.now.items }
         ensures fits { length self.now.items ≤ self.now.room }
@@ -61,6 +68,28 @@ impl<'a, T: Copy> Table<'a, T> {
     {
         let slots = &mut *self.slots;
         slots[i] = item;
+    }
+
+    // One more behind them.
+    pub fn push(&mut self, item: T)
+        requires { length self.old.items < self.old.room }
+        ensures items { self.new.items ≡ self.old.items ++ (item ∷ []) }
+        ensures room { self.new.room ≡ self.old.room }
+    {
+        let slots = &mut *self.slots;
+        slots[self.count] = item;
+        self.count += 1;
+    }
+
+    // Others behind them.
+    pub fn extend_from_slice(&mut self, from: &[T])
+        requires { length self.old.items + length from.now ≤ self.old.room }
+        ensures items { self.new.items ≡ self.old.items ++ from.now }
+        ensures room { self.new.room ≡ self.old.room }
+    {
+        let end = self.count + from.len();
+        self.slots[self.count..end].copy_from_slice(from);
+        self.count = end;
     }
 
     // Other items before those from i on.
