@@ -1,0 +1,3 @@
+mod Levels
+mod Spills
+mod Tasks
