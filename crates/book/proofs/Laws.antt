@@ -42,7 +42,7 @@ stages_ok (st ∷ sts) h = (ltb→lt 0 st.size (and_right most (ltb 0 st.size) (
     one : T (stage_ok st)
     one = and_left (stage_ok st) (every stage_ok sts) h
 
-sized : (sts : List Stage) → StagesFit sts → Sized sts
+pub sized : (sts : List Stage) → StagesFit sts → Sized sts
 sized [] h = tt
 sized (st ∷ sts) h = (h.0, sized sts h.2)
 
