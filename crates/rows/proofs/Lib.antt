@@ -4,3 +4,4 @@ pub mod Halves
 pub mod Parts
 pub mod Shares
 pub mod Written
+mod Adjacent

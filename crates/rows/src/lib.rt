@@ -3,6 +3,7 @@
 // Contracts cite the definitions of the crate `book`; specs/ says which rows and keys the words and values stand for.
 #![tactic(auto)]
 
+pub mod events;
 pub mod flow;
 pub mod row;
 pub mod segments;

@@ -1,7 +1,7 @@
 // Sorted rows that are borrowed, of a table or of a page that is shown, and where a key stands among them.
-ghost use Rattle.std.specs.Prelude.{◌≡◌, ◌+◌, ◌*◌, ◌^◌, ◌≤◌, length, take, drop};
-ghost use Rattle.book.specs.Rows.{Sorted};
-ghost use Rattle.rows.specs.Model.{key_of, rows_of};
+ghost use Rattle.std.specs.Prelude.{◌≡◌, ◌+◌, ◌*◌, ◌^◌, ◌≤◌, ◌↔◌, length, take, drop, IsSome, IfSome};
+ghost use Rattle.book.specs.Rows.{Sorted, ltk};
+ghost use Rattle.rows.specs.Model.{key_of, row_in, rows_of};
 ghost use Rattle.rows.specs.Search.{Splits, HeldAt};
 
 use crate::row::{Row, RowKey, RowWords};
@@ -25,6 +25,13 @@ impl<'a> Model for SortedRows<'a> {
     ghost invariant = { λ s. Sorted (rows_of s.rows.now) };
 }
 
+// Does a row stand before another.
+fn is_before(a: &RowWords, b: &RowWords) -> bool
+    ensures { result ≡ ltk (row_in a.now).at (row_in b.now).at }
+{
+    Row::from(*a).at < Row::from(*b).at
+}
+
 // Where a key stands among rows, and how many of them were read to find it.
 #[derive(Clone, Copy)]
 pub struct Found {
@@ -38,6 +45,18 @@ impl<'a> SortedRows<'a> {
         ensures { result ≡ rows_of rows.now }
     {
         SortedRows { rows }
+    }
+
+    // These rows, if they are sorted. One pass finds out.
+    pub fn try_new(rows: &'a [RowWords]) -> Option<Self>
+        ensures some { IsSome result ↔ Sorted (rows_of rows.now) }
+        ensures rows { IfSome result (λ sorted. sorted ≡ rows_of rows.now) }
+    {
+        if rows.is_sorted_by(is_before) {
+            Some(SortedRows { rows })
+        } else {
+            None
+        }
     }
 
     pub fn as_slice(&self) -> &'a [RowWords]
