@@ -1,6 +1,6 @@
 // Words as bytes, the high byte first, and bytes as words.
 ghost use Rattle.std.specs.Prelude.{◌≡◌, ◌+◌, ◌*◌, ◌≤◌, ◌++◌, length, MatchResult};
-ghost use Rattle.book.specs.Words.{just, words_of, words_bytes, AreWords};
+ghost use Rattle.book.specs.Words.{just, words_of, words_bytes};
 ghost use Rattle.written.specs.Bytes.{IsRefused};
 
 use tables::Table;

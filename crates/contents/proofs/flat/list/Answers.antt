@@ -10,4 +10,4 @@ returns-in_err-count g c = ap (read_list (read_many read_word g.row.N)) (nil_fro
 
 pub returns : goal.returns
 unfolding read_list
-returns g c = ap (read_list (read_many read_word g.row.N)) c.in_ok-count.ensures.cases.0 ∙ c.many.ensures
+returns g c = ap (read_list (read_many read_word g.row.N)) c.in_ok-count.ensures.cases.0 ∙ c.many.ensures.items

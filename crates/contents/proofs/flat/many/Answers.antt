@@ -7,13 +7,13 @@ use Rattle.contents.specs.Flat.{got_of}
 use Rattle.contents.proofs.Items.{many_got, many_none, first_of}
 use Rattle.contents.proofs.flat.many.Goals as goal
 
-pub returns-in_err-items : goal.returns-in_err-items
-returns-in_err-items g c =
+pub returns-in_err-items-clause-items : goal.returns-in_err-items-clause-items
+returns-in_err-items-clause-items g c =
     many_none g.row.N c.args.count c.args.words.now ((div-lt_iff_lt-mul c.requires).0 (omega (arith, c.in_err-items.ensures.lookup, c.as_chunks.ensures.front_len)))
     ∙ ap got_of (sym c.from_residual.ensures)
 
-pub returns : goal.returns
-returns g c =
+pub returns-clause-items : goal.returns-clause-items
+returns-clause-items g c =
     let ws = c.args.words.now in
     let k = c.args.count in
     let n = g.row.N in
