@@ -4,7 +4,7 @@ mod Steps
 mod Spill
 mod Flow
 mod Weights
-mod Due
+pub mod Due
 mod Stands
 mod Logs
 pub mod Book

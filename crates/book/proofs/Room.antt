@@ -16,7 +16,7 @@ use Rattle.book.proofs.Book.{rest_due}
 use Rattle.book.proofs.Ends.{has_room_still}
 
 -- WHAT IS NOT DUE is in bounds
-abbrev Calm : Sizes → Step → Queue → Type 0
+abbrev pub Calm : Sizes → Step → Queue → Type 0
 Calm z (Pack v) q = Unit {0}
 Calm z (Spill i) q = Unit {0}
 Calm z Lower q = length q.buffer ≤ z.buffer
@@ -49,7 +49,7 @@ calm_rows z m q step e = two (ltb z.buffer (length q.buffer)) refl e
     two true t d = calm_at z (Spill (fullest q.segments q.buffer).number) step q tt d
     two false t d = three (ltb-false z.buffer (length q.buffer) t) (ltb z.front (length q.front)) refl d
 
-calm_crowd : (z : Sizes) (m : ℕ) (c : Crowd) (q : Queue) (step : Step) → due_crowd z m c q ≡ Do step → Calm z step q
+pub calm_crowd : (z : Sizes) (m : ℕ) (c : Crowd) (q : Queue) (step : Step) → due_crowd z m c q ≡ Do step → Calm z step q
 unfolding due_crowd
 calm_crowd z m calm q step e = calm_rows z m q step e
 calm_crowd z m (crowded v) q step e = calm_at z (Pack v) step q tt e

@@ -17,7 +17,7 @@ use segs::segment::{Level, PageNumber, Segment, SegmentWords};
 
 // The upper half of the front becomes a new first segment's, in the buffer. An empty front has none.
 pub fn lower(queue: &mut Queue<'_>, stages: &[Stage])
-    requires buffer { length queue.old.buffer.items + (length queue.old.front.items - length queue.old.front.items / 2) ≤ queue.old.buffer.room }
+    requires buffer { length queue.old.buffer.items + queue.old.front.room ≤ queue.old.buffer.room }
     requires segments { length queue.old.segments.items < queue.old.segments.room }
     ensures queue { queue_of queue.new ≡ (lowered (aggregates_of stages.now) (length queue.old.front.items / 2) (queue_of queue.old)).queue }
     ensures front { length queue.new.front.items ≡ length queue.old.front.items / 2 }

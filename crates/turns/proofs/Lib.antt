@@ -1,3 +1,6 @@
 mod Levels
 mod Spills
 mod Tasks
+pub mod Shown
+mod Due
+mod Tidied

@@ -1,2 +1,4 @@
 pub mod Model
 pub mod Task
+pub mod Turn
+pub mod Tidy

@@ -53,5 +53,5 @@ pages_written (Rows first spilt) out upper index = (spilt_of first.0 no_segment 
 
 -- rows of the buffer are in the pages of the i-th segment; or there is no room for one more, or for page numbers, and the queue is as it was
 abbrev pub Spilled : (ℕ → Sum) → (size i : ℕ) → (shown : book.Page) → (old new : Queue) → (out upper : List Row) → Result Written Beyond → Type 0
-Spilled how size i shown old new out upper (Ok w) = (queue_of new ≡ (book.spill how size i shown (queue_of old)).queue) × (pages_written w out upper [] ≡ (book.spill how size i shown (queue_of old)).writes)
+Spilled how size i shown old new out upper (Ok w) = (queue_of new ≡ (book.spill how size i shown (queue_of old)).queue) × ((index : List book.Seg) → pages_written w out upper index ≡ (book.spill how size i shown (queue_of old)).writes)
 Spilled how size i shown old new out upper (Err b) = (HasRoom 1 old.segments (Err b) ⊎ ((b ≡ Numbers) × (top ≤ suc (suc old.next.0)))) × (new ≡ old)

@@ -3,7 +3,10 @@
 // its numbers or segments would be beyond what is lent. Neither comes up in books that grew by steps.
 #![tactic(auto)]
 
+mod pages;
 pub mod plates;
 mod rows;
+pub mod rules;
 mod segments;
 pub mod task;
+mod tidy;

@@ -19,7 +19,7 @@ use spills::step::spill;
 
 // The upper half of the front becomes a new first segment's.
 pub(crate) fn lower_front(queue: &mut Queue<'_>, stages: &[Stage]) -> Result<Written, Beyond>
-    requires buffer { length queue.old.buffer.items + (length queue.old.front.items - length queue.old.front.items / 2) ≤ queue.old.buffer.room }
+    requires buffer { length queue.old.buffer.items + queue.old.front.room ≤ queue.old.buffer.room }
     ensures lowered { Lowered (aggregates_of stages.now) queue.old queue.new result }
     ensures room { SameRoom queue.old queue.new }
 {
