@@ -51,13 +51,18 @@ open_is how s ss q n e h cut =
     ∙ ap (λ (x : List Seg). open_by how x q) (sym e)
 
 -- of segments in memory
-pub open_rows : (how : ℕ → Sum) (slots was : List (List ℕ)) (q : Queue) (d : List ℕ) (s : Seg) (n : ℕ) → 1 ≤ length slots → q.segments ≡ segs_of slots → was ≡ slots → s ≡ seg_in (get_or was 0 d) → Sorted q.buffer → Cut (segs_of (take (length was - 1) (drop 1 was))) q.buffer n
+pub open_rows : (how : ℕ → Sum) (slots was : List (List ℕ)) (q : Queue) (d : List ℕ) (s : Seg) (n : ℕ) → q.segments ≡ segs_of slots → was ≡ slots → 1 ≤ length was → s ≡ seg_in (get_or was 0 d) → Sorted q.buffer → Cut (segs_of (take (length was - 1) (drop 1 was))) q.buffer n
     → record { front = onto how (take n q.buffer) q.front; buffer = drop n q.buffer; segments = segs_of (drop 1 slots); source = s.head; next = q.next } ≡ open_by how q.segments q
-open_rows how [] was q d s n some e is first h cut = absurd (omega arith)
-open_rows how (w ∷ ws) was q d s n some e is first h cut =
+open_rows how [] was q d s n e is some first h cut = absurd (omega (arith, some, ap length is))
+open_rows how (w ∷ ws) was q d s n e is some first h cut =
     let all : take (suc (length ws) - 1) ws ≡ ws = take_all (suc (length ws) - 1) ws (omega arith) in
     let z : Cut (segs_of (take (suc (length ws) - 1) ws)) q.buffer n = rw is at cut in
     open_is how s (segs_of ws) q n (e ∙ ap (λ (x : Seg). x ∷ segs_of ws) (sym (first ∙ ap (λ (x : List (List ℕ)). seg_in (get_or x 0 d)) is))) h (rw all at z)
+
+pub open_none : (how : ℕ → Sum) (slots was : List (List ℕ)) (q : Queue) → q.segments ≡ segs_of slots → was ≡ slots → length was < 1 → q ≡ open_by how q.segments q
+unfolding open_by
+open_none how [] was q e is none = ap (λ (x : List Seg). open_by how x q) (sym e)
+open_none how (w ∷ ws) was q e is none = absurd (omega (arith, none, ap length is))
 
 -- which rows are below segments in memory
 pub cut_none : (slots : List (List ℕ)) (rs : List Row) (n : ℕ) → length slots < 1 → n ≡ length rs → Cut (segs_of slots) rs n

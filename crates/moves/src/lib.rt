@@ -68,23 +68,24 @@ fn count_below(rows: &SortedRows<'_>, segments: &[SegmentWords]) -> usize
     }
 }
 
-// The first segment comes to the front, its row pages as the source. As rows are sorted, those that are then below the
-// first segment are the first of the buffer, and the others can stay.
+// The first segment, if there is one, comes to the front, its row pages as the source. As rows are sorted, those that are
+// then below the first segment are the first of the buffer, and the others can stay.
 pub fn open(queue: &mut Queue<'_>, stages: &[Stage])
-    requires some { 1 ≤ length queue.old.segments.items }
-    requires front { length queue.old.front.items + length queue.old.buffer.items ≤ queue.old.front.room }
+    requires { length queue.old.front.items + length queue.old.buffer.items ≤ queue.old.front.room }
     ensures queue { queue_of queue.new ≡ (opened (aggregates_of stages.now) (queue_of queue.old)).queue }
     ensures front { length queue.new.front.items + length queue.new.buffer.items ≤ length queue.old.front.items + length queue.old.buffer.items }
     ensures buffer { length queue.new.buffer.items ≤ length queue.old.buffer.items }
-    ensures segments { length queue.new.segments.items + 1 ≡ length queue.old.segments.items }
+    ensures segments { length queue.new.segments.items ≤ length queue.old.segments.items }
     ensures room { SameRoom queue.old queue.new }
 {
-    let segments = queue.segments.as_slice();
-    let first = Segment::from(segments[0]);
+    let [first, rest @ ..] = queue.segments.as_slice() else {
+        return;
+    };
+    let head = Segment::from(*first).head;
     let rows = queue.buffer.as_sorted();
-    let count = count_below(&rows, &segments[1..]);
+    let count = count_below(&rows, rest);
     queue.front.merge(&rows.as_slice()[..count], stages);
     queue.buffer.remove_range(0..count);
     queue.segments.remove_range(0..1);
-    queue.source = first.head;
+    queue.source = head;
 }
