@@ -1,16 +1,19 @@
 -- What is due, case by case.
 -- Assumes nothing.
-use Rattle.std.proofs.Common.{◌≡◌, ℕ, ◌<◌, ◌≤◌, Bool, true, false, cond, nat_le, List, [], ◌∷◌, length, get_or, sym, refl, ap, ◌∙◌, arith}
+use Rattle.std.proofs.Common.{◌≡◌, ℕ, zero, suc, inl, inr, ◌<◌, ◌≤◌, Bool, true, false, cond, nat_le, List, [], ◌∷◌, length, get_or, sym, refl, ap, ◌∙◌, arith}
 use Rattle.std.specs.Bool.{then_some}
-use Rattle.std.proofs.lemmas.Bool.{lt-ltb, le-ltb}
+use Rattle.std.proofs.lemmas.Bool.{lt-ltb, le-ltb, cases_lt}
 use Rattle.std.proofs.lemmas.List.{length-map}
 use Rattle.book.specs.Rows.{Row}
-use Rattle.book.specs.Queue.{Link, nil, page, Seg, Queue}
-use Rattle.book.specs.Due.{Sizes, Due, Nothing, Do, Spill, Pack, Lower, Sift, Open, Unpack, Crowd, calm, crowded, crowd, fullest, index_of, due_first, due_segments, due_front, due_source, due_rows, due_crowd}
+use Rattle.book.specs.Queue.{Link, nil, page, Seg, Queue, head_at}
+use Rattle.book.specs.Due.{Sizes, Due, Nothing, Do, Pack, Lower, Sift, Open, Unpack, Crowd, calm, crowded, crowd, fullest, index_of, at_level, due_first, due_segments, due_front, due_source, due_rows, due_crowd}
 use Rattle.rows.specs.Model.{row_in, rows_of}
-use Rattle.segs.specs.Model.{seg_in, segs_of}
-use Rattle.dues.specs.declared.Step.TheVariants.{Emit}
-use Rattle.dues.specs.Model.{as_due}
+use Rattle.rows.specs.Segments.{IsRange}
+use Rattle.rows.specs.declared.segments.KeyRange.{KeyRange}
+use Rattle.segs.specs.Model.{seg_in, segs_of, page_link}
+use Rattle.dues.specs.declared.Step.TheVariants.{Emit, Spill}
+use Rattle.dues.specs.declared.Fullest.{Fullest}
+use Rattle.dues.specs.Model.{as_due, Knows, Fills}
 
 pub as_long : (slots : List (List ℕ)) {rs : List Row} → rows_of slots ≡ rs → length slots ≡ length rs
 as_long slots e = sym (length-map slots row_in) ∙ ap length e
@@ -50,12 +53,40 @@ unfolding index_of
 first_index [] was d s e some is = absurd (omega (arith, some, ap length e))
 first_index (w ∷ ws) was d s e some is = ap (λ (t : Seg). t.index) (is ∙ ap (λ (y : List (List ℕ)). seg_in (get_or y 0 d)) e)
 
--- THE REST
+pub first_there : (slots was : List (List ℕ)) → was ≡ slots → 1 ≤ length was → 1 ≤ length (segs_of slots)
+first_there slots was e some = omega (arith, some, ap length e, length-map slots seg_in)
+
+-- THE REST. A level that is crowded has segments
+pub many : (z : ℕ) (all ss : List Seg) (v : ℕ) → crowded v ≡ crowd z all ss → 1 ≤ at_level v all
+unfolding crowd
+many z all [] v e = absurd (cc)
+many z all (s ∷ ss) v e = elim (cases_lt z (at_level s.level all)) [
+  | inl lt ↦
+      let c = rw (lt-ltb z (at_level s.level all) lt) at e in
+      let w : v ≡ s.level = cc in
+      rw w (omega (arith, lt))
+  | inr le ↦
+      let c = rw (le-ltb z (at_level s.level all) le) at e in
+      many z all ss v c
+]
+
+range_in : (r : KeyRange) (i : ℕ) (ss : List Seg) → IsRange r i ss → i < length ss
+range_in r i [] h = absurd h
+range_in r zero (s ∷ ss) h = omega arith
+range_in r (suc i) (s ∷ ss) h = let l = range_in r i ss h in omega arith
+
+pub fullest_in : (q : Queue) (rs : List Row) (f : Fullest) → Fills 0 q.segments rs f → Knows q (Spill f)
+fullest_in q rs f h =
+    let z : f.number ≡ (fullest q.segments rs).number = omega (arith, h.number) in
+    let range : IsRange f.range f.number q.segments = rw z h.range in
+    let head : page_link f.head ≡ head_at f.number q.segments = rw z h.head in
+    (range_in f.range f.number q.segments range, range, head)
+
 pub packs : (z : Sizes) (m : ℕ) (q : Queue) (v : ℕ) → crowded v ≡ crowd z.segments q.segments q.segments → Do (Pack v) ≡ due_crowd z m (crowd z.segments q.segments q.segments) q
 unfolding due_crowd
 packs z m q v e = ap (λ (x : Crowd). due_crowd z m x q) e
 
-pub spills : (z : Sizes) (m : ℕ) (q : Queue) → calm ≡ crowd z.segments q.segments q.segments → z.buffer < length q.buffer → Do (Spill (fullest q.segments q.buffer).number) ≡ due_crowd z m (crowd z.segments q.segments q.segments) q
+pub spills : (z : Sizes) (m : ℕ) (q : Queue) → calm ≡ crowd z.segments q.segments q.segments → z.buffer < length q.buffer → Do (Rattle.book.specs.Due.Spill (fullest q.segments q.buffer).number) ≡ due_crowd z m (crowd z.segments q.segments q.segments) q
 unfolding due_crowd due_rows
 spills z m q e b = sym (rw (lt-ltb z.buffer (length q.buffer) b) refl) ∙ ap (λ (x : Crowd). due_crowd z m x q) e
 

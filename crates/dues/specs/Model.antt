@@ -1,6 +1,6 @@
 -- What the values of the code stand for in the definitions of the book.
 -- Assumes nothing.
-use Rattle.std.specs.Prelude.{◌≡◌, ℕ, ◌+◌, List, [], Some, None, Option}
+use Rattle.std.specs.Prelude.{◌≡◌, ℕ, ◌+◌, ◌<◌, ◌≤◌, List, [], length, Some, None, Option}
 use Rattle.book.specs.Rows.{Row}
 use Rattle.book.specs.Queue.{Seg, Queue, page, head_at}
 use Rattle.book.specs.Due as book
@@ -33,15 +33,15 @@ abbrev pub IsFullest : (first : ℕ) → List Seg → List Row → Option Fulles
 IsFullest i ss rs None = ss ≡ []
 IsFullest i ss rs (Some f) = Fills i ss rs f
 
--- what whoever does the step has to know
+-- what whoever does the step has to know: which segments there are, and the page that is shown
 abbrev pub Knows : Queue → Step → Type 0
-Knows q (Pack v) = Unit {0}
-Knows q (Spill f) = IsRange f.range f.number q.segments × (page_link f.head ≡ book.shows (book.Spill f.number) q)
+Knows q (Pack v) = 1 ≤ book.at_level v.0 q.segments
+Knows q (Spill f) = (f.number < length q.segments) × IsRange f.range f.number q.segments × (page_link f.head ≡ book.shows (book.Spill f.number) q)
 Knows q Lower = Unit {0}
 Knows q (Sift n) = page n.0 ≡ book.shows book.Sift q
 Knows q Emit = Unit {0}
-Knows q (Unpack n) = page n.0 ≡ book.shows book.Unpack q
-Knows q Open = Unit {0}
+Knows q (Unpack n) = (1 ≤ length q.segments) × (page n.0 ≡ book.shows book.Unpack q)
+Knows q Open = 1 ≤ length q.segments
 
 abbrev pub Carries : Queue → Option Step → Type 0
 Carries q None = Unit {0}

@@ -1,14 +1,22 @@
 use Rattle.std.proofs.Common.{◌≡◌, ℕ, refl, ap, ◌∙◌, arith}
 use Rattle.book.specs.Queue.{nil, page}
 use Rattle.book.specs.Due.{Do, Spill, fullest}
-use Rattle.segs.specs.Model.{page_link}
+use Rattle.segs.specs.Model.{page_link, segs_of}
 use Rattle.queue.specs.Model.{queue_of}
 use Rattle.sizes.specs.Model.{sizes_of}
-use Rattle.dues.proofs.Cases.{as_long, packs, spills, quiet, lowers, goes_on, sifts, no_source}
+use Rattle.dues.proofs.Cases.{as_long, many, fullest_in, packs, spills, quiet, lowers, goes_on, sifts, no_source}
 use Rattle.dues.proofs.due.Goals as goal
 
 pub returns-in-Some-clause-due : goal.returns-in-Some-clause-due
 returns-in-Some-clause-due c = packs (sizes_of c.args.sizes.now) c.args.mark.0 (queue_of c.args.queue.now) c.in-Some.level.0 (rw c.as_slice-segments.ensures.items at c.in-Some.ensures)
+
+pub returns-in-Some-clause-carries : goal.returns-in-Some-clause-carries
+returns-in-Some-clause-carries c =
+    let ss = segs_of c.args.queue.now.segments.items in
+    many c.args.sizes.now.segments ss ss c.in-Some.level.0 (rw c.as_slice-segments.ensures.items at c.in-Some.ensures)
+
+pub returns-then-as_slice-sizes-clause-carries : goal.returns-then-as_slice-sizes-clause-carries
+returns-then-as_slice-sizes-clause-carries c = fullest_in (queue_of c.args.queue.now) c.as_sorted-buffer.result c.in_ok-fullest.fullest (rw c.as_slice-segments.ensures.items at c.in_ok-fullest.ensures)
 
 pub returns-then-as_slice-sizes-clause-due : goal.returns-then-as_slice-sizes-clause-due
 returns-then-as_slice-sizes-clause-due c =
