@@ -16,7 +16,7 @@ mod Table
 pub mod Real
 mod Parts
 mod Safe
-mod Small
+pub mod Small
 mod Limits
 pub mod Laws
 pub mod Room

@@ -223,7 +223,7 @@ first_fits Total v h = h
 first_fits Least v h = h
 first_fits Greatest v h = h
 
-end_fits : (size t : ℕ) → 0 < size → end_of size t ≤ t + size
+pub end_fits : (size t : ℕ) → 0 < size → end_of size t ≤ t + size
 end_fits size t h = let a : t / size * size ≤ t = div-mul-le_self t size in let b : (t / size + 1) * size ≡ t / size * size + size = ap (λ (k : ℕ). k * size) (succ (t / size)) ∙ suc-mul (t / size) size in omega arith
   where
     succ : (n : ℕ) → n + 1 ≡ suc n
@@ -255,7 +255,7 @@ onward_fits (st ∷ sts) s e z h f = go (eqb (word st.keep' e) 0)
     go true = tt
     go false = row_fits st s e z.0 z.1 (omega arith) f
 
-stages_drop : (n : ℕ) (sts : List Stage) → StagesFit sts → StagesFit (drop n sts)
+pub stages_drop : (n : ℕ) (sts : List Stage) → StagesFit sts → StagesFit (drop n sts)
 stages_drop zero sts h = h
 stages_drop (suc n) [] h = tt
 stages_drop (suc n) (st ∷ sts) h = stages_drop n sts h.2
