@@ -11,6 +11,10 @@ use Rattle.rows.specs.Model.{row_of, row_in, rows_of}
 use Rattle.rows.specs.Search.{Between, Splits, HeldAt}
 use Rattle.rows.proofs.Order.{bef_trans, upto_bef, upto_trans, bef_from, upto_from, same_from, after_from, each_like, add_before, add_at, add_behind}
 
+-- there are as many words as rows
+pub as_long : {all : List Row} (slots : List (List ℕ)) → rows_of slots ≡ all → length slots ≡ length all
+as_long slots e = sym (length-map slots row_in) ∙ ap length e
+
 -- the row at a place
 pub row_there : (slots : List (List ℕ)) (i : ℕ) (d : List ℕ) → i < length slots → drop i (rows_of slots) ≡ row_in (get_or slots i d) ∷ drop (suc i) (rows_of slots)
 row_there [] i d lt = absurd (omega arith)

@@ -2,7 +2,6 @@
 -- Assumes nothing.
 use Rattle.std.proofs.Common.{◌≡◌, ℕ, ◌/◌, ◌<◌, ◌≤◌, ◌⊎◌, Bool, true, false, cond, List, [], ◌∷◌, length, get_or, take, Some, None, Option, inl, inr, sym, refl, ap, ◌∙◌, arith}
 use Rattle.std.specs.Option.{is_some}
-use Rattle.std.proofs.lemmas.List.{length-map}
 use Rattle.std.proofs.lemmas.Bool.{le-leb, lt-leb}
 use Rattle.streams.specs.Meaning.{Sum}
 use Rattle.book.specs.Rows.{Row, onto}
@@ -66,12 +65,9 @@ join_two how size n h below head rows moved all s o u p e lt i b a some =
     ∙ ap (λ (x : Link). too_full n s x nil all moved) (sym i) ∙ ap (λ (x : Link). too_full n s s.index x all moved) (sym b)
     ∙ full how size n h below head rows moved all s p e lt
 
--- the rows of both, and how many there are
+-- the rows of both, and the first row's key
 pub joined : (how : ℕ → Sum) {all moved was rows shown : List Row} → all ≡ onto how moved was → moved ≡ rows → was ≡ shown → all ≡ onto how rows shown
 joined how {all} {moved} {was} {rows} {shown} e p q = e ∙ ap (λ (x : List Row). onto how x was) p ∙ ap (onto how rows) q
-
-pub as_long : {all : List Row} (slots : List (List ℕ)) → rows_of slots ≡ all → length slots ≡ length all
-as_long slots e = sym (length-map slots row_in) ∙ ap length e
 
 pub first_is : (slots : List (List ℕ)) (rs : List Row) (d : List ℕ) (r : Row) → rows_of slots ≡ rs → 1 ≤ length rs → r ≡ row_in (get_or slots 0 d) → r.at ≡ first_at rs
 first_is [] rs d r e h is = absurd (let l = ap length e in omega arith)

@@ -3,7 +3,8 @@ use Rattle.std.proofs.lemmas.List.{length-drop}
 use Rattle.book.specs.Queue.{page}
 use Rattle.rows.specs.Model.{rows_of, aggregates_of}
 use Rattle.segs.specs.Model.{page_link}
-use Rattle.spills.proofs.Joins.{no_link, a_link, join_none, join_fits, join_beside, join_two, joined, as_long}
+use Rattle.rows.proofs.Places.{as_long}
+use Rattle.spills.proofs.Joins.{no_link, a_link, join_none, join_fits, join_beside, join_two, joined}
 use Rattle.spills.proofs.pages.join_page.Goals.{else-is_none-2-via-then-is_none-2+else-is_none-3, else-is_none-2-via-else-is_none-2}
 use Rattle.spills.proofs.pages.join_page.Goals as goal
 

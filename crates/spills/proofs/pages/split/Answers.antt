@@ -1,7 +1,7 @@
 use Rattle.std.proofs.Common.{◌/◌, take, drop, length, sym, ap, ◌∙◌}
 use Rattle.std.proofs.lemmas.List.{take-map}
 use Rattle.rows.specs.Model.{row_in, rows_of}
-use Rattle.spills.proofs.Joins.{as_long}
+use Rattle.rows.proofs.Places.{as_long}
 use Rattle.spills.proofs.pages.split.Goals as goal
 
 pub returns-clause-halves : goal.returns-clause-halves
