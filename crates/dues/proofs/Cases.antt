@@ -8,15 +8,13 @@ use Rattle.book.specs.Rows.{Row}
 use Rattle.book.specs.Queue.{Link, nil, page, Seg, Queue, head_at}
 use Rattle.book.specs.Due.{Sizes, Due, Nothing, Do, Pack, Lower, Sift, Open, Unpack, Crowd, calm, crowded, crowd, fullest, index_of, at_level, due_first, due_segments, due_front, due_source, due_rows, due_crowd}
 use Rattle.rows.specs.Model.{row_in, rows_of}
+use Rattle.rows.proofs.Places.{as_long}
 use Rattle.rows.specs.Segments.{IsRange}
 use Rattle.rows.specs.declared.segments.KeyRange.{KeyRange}
 use Rattle.segs.specs.Model.{seg_in, segs_of, page_link}
 use Rattle.dues.specs.declared.Step.TheVariants.{Emit, Spill}
 use Rattle.dues.specs.declared.Fullest.{Fullest}
 use Rattle.dues.specs.Model.{as_due, Knows, Fills}
-
-pub as_long : (slots : List (List ℕ)) {rs : List Row} → rows_of slots ≡ rs → length slots ≡ length rs
-as_long slots e = sym (length-map slots row_in) ∙ ap length e
 
 -- THE FRONT: its first row has ended or not; there is none, and no segment; there is none, but a first segment
 pub front_row : (m : ℕ) (rows : List (List ℕ)) (ss : List Seg) (rs : List Row) (d : List ℕ) (r : Row) (b : Bool) → 1 ≤ length rows → rows_of rows ≡ rs → r ≡ row_in (get_or rows 0 d) → b ≡ nat_le r.at.end m → as_due (then_some b Emit) ≡ due_front m rs ss

@@ -12,12 +12,13 @@ use Rattle.book.specs.Flow.{row_of, how_of, onward}
 use Rattle.book.specs.Due.{Sizes, Emitted, emit, emit_by, go_on, popped, then', take'}
 use Rattle.book.specs.Ledger.{has_room, take_events}
 use Rattle.book.specs.Small.{StagesFit}
+use Rattle.book.proofs.Small.{end_fits}
 use Rattle.plans.specs.declared.stages.Stage.{Stage as Code}
 use Rattle.plans.specs.Model.{stage_of, event_in, events_of}
 use Rattle.rows.specs.declared.row.Row.{Row as CodeRow}
-use Rattle.rows.specs.Model.{row_in, rows_of, row_of as as_row}
+use Rattle.rows.specs.Model.{rows_of, row_of as as_row}
+use Rattle.rows.proofs.Places.{as_long}
 use Rattle.emits.specs.Model.{IsEnded}
-use Rattle.emits.proofs.Windows.{end_near}
 
 -- TAKE: no stage; an event that is kept; one that is not
 pub take_none : (sts : List Code) (e : Event) (q : Queue) → length sts < 1 → q ≡ take' (map stage_of sts) e q
@@ -45,20 +46,20 @@ take_left (st ∷ sts) d e q some is fit lt (inl h) =
 take_left (st ∷ sts) d e q some is fit lt (inr h) =
     let z : d ≡ st = is in
     let k : 2 ^ 64 ≤ end_of (stage_of st).size e.time = rw z at h in
-    absurd (omega (arith, k, end_near (stage_of st).size e.time, fit.1, lt))
+    absurd (omega (arith, k, end_fits (stage_of st).size e.time fit.0, fit.1, lt))
 
 -- is there room
 pub room_buffer : (z : Sizes) (q : Queue) (front buffer : List (List ℕ)) → rows_of front ≡ q.front → length front ≤ z.front → rows_of buffer ≡ q.buffer → nat_le (length buffer) z.buffer ≡ has_room z q
 unfolding has_room
 room_buffer z q front buffer f le b =
-    let short : length q.front ≤ z.front = omega (arith, le, length-map front row_in, ap length f) in
-    let long : length buffer ≡ length q.buffer = sym (length-map buffer row_in) ∙ ap length b in
+    let short : length q.front ≤ z.front = omega (arith, le, as_long front f) in
+    let long : length buffer ≡ length q.buffer = as_long buffer b in
     ap (λ (n : ℕ). nat_le n z.buffer) long ∙ sym (rw (le-leb (length q.front) z.front short) refl)
 
 pub room_front : (z : Sizes) (q : Queue) (front : List (List ℕ)) → rows_of front ≡ q.front → z.front < length front → nat_le (length front) z.front ≡ has_room z q
 unfolding has_room
 room_front z q front f lt =
-    let long : z.front < length q.front = omega (arith, lt, length-map front row_in, ap length f) in
+    let long : z.front < length q.front = omega (arith, lt, as_long front f) in
     rw (lt-leb (length front) z.front lt, lt-leb (length q.front) z.front long) refl
 
 -- TAKE EVENTS: one more; no room; none left

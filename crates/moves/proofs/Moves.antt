@@ -1,7 +1,7 @@
 -- Rows placed one by one: those below the segments are added to the front, the others to the buffer. By them the steps.
 -- Assumes nothing.
 use Rattle.std.proofs.Common.{◌≡◌, ℕ, suc, ◌+◌, ◌-◌, ◌/◌, ◌<◌, ◌≤◌, true, false, not, List, [], ◌∷◌, ◌++◌, length, get_or, take, drop, sym, refl, ap, ◌∙◌, append-nil, arith}
-use Rattle.std.proofs.lemmas.List.{drop_all, drop_more, drop-map, take_all, length-map, length-drop, take-append-drop}
+use Rattle.std.proofs.lemmas.List.{drop_all, drop_more, drop-map, take_all, length-drop, take-append-drop}
 use Rattle.streams.specs.Meaning.{Sum}
 use Rattle.book.specs.Rows.{Row, Bef, Upto, Each, Sorted, ltk, add, onto}
 use Rattle.book.specs.Queue.{nil, Seg, Queue, goes_up, place, places, lower_by, open_by}
@@ -9,7 +9,7 @@ use Rattle.book.proofs.Rows.{add_lo, onto_add}
 use Rattle.rows.specs.Model.{row_in, rows_of}
 use Rattle.rows.specs.Search.{Splits}
 use Rattle.rows.proofs.Order.{lt_yes, lt_no, each_like}
-use Rattle.rows.proofs.Places.{row_there, sorted_right}
+use Rattle.rows.proofs.Places.{as_long, row_there, sorted_right}
 use Rattle.rows.proofs.Shares.{each_all}
 use Rattle.segs.specs.Model.{seg_in, segs_of}
 use Rattle.moves.specs.Model.{Cut}
@@ -90,7 +90,7 @@ pub lower_is : (how : ℕ → Sum) (q : Queue) (rows : List (List ℕ)) (d : Lis
     ≡ lower_by how (take (length q.front / 2) q.front) (drop (length q.front / 2) q.front) q
 lower_is how q rows d r e lt is =
     let n = length rows / 2 in
-    let long : length rows ≡ length q.front = sym (length-map rows row_in) ∙ ap length e in
+    let long : length rows ≡ length q.front = as_long rows e in
     let first : drop n q.front ≡ r ∷ drop (suc n) (rows_of rows) = ap (drop n) (sym e) ∙ row_there rows n d lt ∙ ap (λ (x : Row). x ∷ drop (suc n) (rows_of rows)) (sym is) in
     let front : take n q.front ++ drop (length rows) q.front ≡ take n q.front = ap (λ (x : List Row). take n q.front ++ x) (drop_all (length rows) q.front (omega (arith, long))) ∙ append-nil (take n q.front) in
     let upper : rows_of (take (length rows - n) (drop n rows)) ≡ drop n q.front = ap rows_of (take_all (length rows - n) (drop n rows) (omega (arith, length-drop n rows))) ∙ sym (drop-map row_in n rows) ∙ ap (drop n) e in
@@ -101,7 +101,7 @@ lower_is how q rows d r e lt is =
 pub lower_none : (how : ℕ → Sum) (q : Queue) (rows : List (List ℕ)) → rows_of rows ≡ q.front → length rows ≤ length rows / 2 → q ≡ lower_by how (take (length q.front / 2) q.front) (drop (length q.front / 2) q.front) q
 unfolding lower_by
 lower_none how q rows e le =
-    let long : length rows ≡ length q.front = sym (length-map rows row_in) ∙ ap length e in
+    let long : length rows ≡ length q.front = as_long rows e in
     rw (drop_all (length q.front / 2) q.front (omega (arith, long, le))) refl
 
 -- one row more is placed

@@ -4,7 +4,8 @@ use Rattle.book.specs.Due.{Do, Spill, fullest}
 use Rattle.segs.specs.Model.{page_link, segs_of}
 use Rattle.queue.specs.Model.{queue_of}
 use Rattle.sizes.specs.Model.{sizes_of}
-use Rattle.dues.proofs.Cases.{as_long, many, fullest_in, packs, spills, quiet, lowers, goes_on, sifts, no_source}
+use Rattle.rows.proofs.Places.{as_long}
+use Rattle.dues.proofs.Cases.{many, fullest_in, packs, spills, quiet, lowers, goes_on, sifts, no_source}
 use Rattle.dues.proofs.due.Goals as goal
 
 pub returns-in-Some-clause-due : goal.returns-in-Some-clause-due

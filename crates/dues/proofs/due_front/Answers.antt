@@ -3,7 +3,8 @@ use Rattle.std.proofs.lemmas.Bool.Decides.{nat_tests}
 use Rattle.rows.specs.Model.{row_of}
 use Rattle.segs.specs.Model.{page_link, seg_of}
 use Rattle.dues.specs.Model.{as_due}
-use Rattle.dues.proofs.Cases.{as_long, front_row, front_none, front_first, first_page, first_none, first_index, first_there}
+use Rattle.rows.proofs.Places.{as_long}
+use Rattle.dues.proofs.Cases.{front_row, front_none, front_first, first_page, first_none, first_index, first_there}
 use Rattle.dues.proofs.due_front.Goals as goal
 
 ended : (c : goal.After-then_some) → c.le.result ≡ nat_le (row_of c.from.result).at.end c.args.mark.0
