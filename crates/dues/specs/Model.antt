@@ -5,6 +5,7 @@ use Rattle.book.specs.Rows.{Row}
 use Rattle.book.specs.Queue.{Seg, Queue, page, head_at}
 use Rattle.book.specs.Due as book
 use Rattle.rows.specs.Segments.{IsRange}
+use Rattle.segs.specs.declared.segment.PageNumber.{PageNumber}
 use Rattle.segs.specs.Model.{page_link}
 use Rattle.dues.specs.declared.Fullest.{Fullest}
 use Rattle.dues.specs.declared.Step.{Step}
@@ -46,3 +47,7 @@ Knows q Open = 1 ≤ length q.segments
 abbrev pub Carries : Queue → Option Step → Type 0
 Carries q None = Unit {0}
 Carries q (Some s) = Knows q s
+
+-- the page that it shows, of a queue of which it knows so
+abbrev pub Shows : Step → Option PageNumber → Type 0
+Shows s n = (q : Queue) → Knows q s → page_link n ≡ book.shows (step_of s) q

@@ -6,7 +6,7 @@ ghost use Rattle.book.specs.Due.{due as due_of, due_front as front_due};
 ghost use Rattle.segs.specs.Model.{segs_of};
 ghost use Rattle.queue.specs.Model.{queue_of};
 ghost use Rattle.sizes.specs.Model.{sizes_of};
-ghost use Rattle.dues.specs.Model.{as_due, IsFullest, Carries};
+ghost use Rattle.dues.specs.Model.{as_due, IsFullest, Carries, Shows};
 
 use packs::crowded;
 use plans::numbers::Time;
@@ -35,6 +35,19 @@ pub enum Step {
     Emit,
     Unpack(PageNumber),
     Open,
+}
+
+impl Step {
+    // The page that has to be shown for it, if any.
+    pub fn shown(self) -> Option<PageNumber>
+        ensures { Shows self result }
+    {
+        match self {
+            Step::Spill(fullest) => fullest.head,
+            Step::Sift(page) | Step::Unpack(page) => Some(page),
+            Step::Pack(_) | Step::Lower | Step::Emit | Step::Open => None,
+        }
+    }
 }
 
 // The segment with most of the rows, the first of these; none of no segments. It goes from the last to the first, since a
