@@ -8,7 +8,7 @@ use Rattle.book.specs.Words.{Got, none, got, next, read_many}
 use Rattle.contents.specs.Flat.{read_word}
 
 -- one item
-pub item_got : (n : ℕ) (ws : List ℕ) → n ≤ length ws → read_many read_word n ws ≡ got (take n ws) (drop n ws)
+item_got : (n : ℕ) (ws : List ℕ) → n ≤ length ws → read_many read_word n ws ≡ got (take n ws) (drop n ws)
 unfolding read_many next read_word
 item_got zero ws h = refl
 item_got (suc n) [] h = absurd (omega arith)

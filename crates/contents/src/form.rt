@@ -2,9 +2,10 @@
 ghost use Rattle.std.specs.Prelude.{MatchResult};
 ghost use Rattle.contents.specs.Form.{IsNumbers, IsNone};
 
-// Each number is one word, or four.
+// Each number is one word.
 pub const ONE_WORD: u64 = 0;
 
+// Each number is four words.
 const FOUR_WORDS: u64 = 1;
 
 // Why there are no numbers of a word each.

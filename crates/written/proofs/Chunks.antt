@@ -6,6 +6,7 @@ use Rattle.std.proofs.lemmas.List.{take_more}
 use Rattle.std.specs.Simd.{first_chunks}
 use Rattle.book.specs.Words.{Maybe, nothing, just, word_of, eight_bytes, with_word, words_of, words_bytes, word_bytes}
 
+-- the word of eight bytes
 abbrev pub word_in : List ℕ → ℕ
 word_in bs = word_of (get_or bs 0 0) (get_or bs 1 0) (get_or bs 2 0) (get_or bs 3 0) (get_or bs 4 0) (get_or bs 5 0) (get_or bs 6 0) (get_or bs 7 0)
 
@@ -30,6 +31,7 @@ words_in (suc k) (a ∷ b ∷ c ∷ d ∷ e ∷ f ∷ g ∷ []) h fit = absurd (
 words_in (suc k) (a ∷ b ∷ c ∷ d ∷ e ∷ p ∷ q ∷ r ∷ bs) h fit =
     rw (eight a b c d e p q r (fit 0) (fit 1) (fit 2) (fit 3) (fit 4) (fit 5) (fit 6) (fit 7), words_in k bs (omega arith) (λ i. fit (suc (suc (suc (suc (suc (suc (suc (suc i)))))))))) refl
 
+-- whole chunks are the words of all the bytes
 pub chunked : (bs : List ℕ) (cs : List (List ℕ)) → length bs % 8 ≡ 0 → ((i : ℕ) → Fits w8 (get_or bs i 0)) → cs ≡ first_chunks 8 (length bs / 8) bs → words_of bs ≡ just (map word_in cs)
 chunked bs cs h fit is = words_in (length bs / 8) bs (omega (arith, h)) (λ i. (fit i).fits) ∙ ap (λ (xs : List (List ℕ)). just (map word_in xs)) (sym is)
 
