@@ -1,28 +1,18 @@
 -- What a step that is due may count on.
 -- Assumes nothing.
-use Rattle.std.proofs.Common.{◌≡◌, ℕ, ◌+◌, ◌≤◌, List, [], ◌∷◌, length, ap, arith}
-use Rattle.std.proofs.lemmas.List.{length-map}
-use Rattle.book.specs.Queue.{page}
-use Rattle.segs.specs.Model.{seg_in, segs_of}
-use Rattle.book.specs.Due.{Sizes, SizesOk, at_level, crowd, index_of}
+use Rattle.std.proofs.Common.{ℕ, ◌+◌, ◌≤◌, length, ap, arith}
+use Rattle.book.specs.Due.{Sizes, SizesOk, crowd}
 use Rattle.book.specs.Ledger.{watermark}
 use Rattle.book.proofs.Due.{Ready, ready}
 use Rattle.book.proofs.Room.{Calm, calm_crowd}
 use Rattle.dues.specs.declared.Step.{Step}
-use Rattle.dues.specs.declared.Step.TheVariants.{Pack, Lower, Sift, Emit, Unpack, Open}
+use Rattle.dues.specs.declared.Step.TheVariants.{Lower, Sift, Emit, Open}
 use Rattle.dues.specs.Model.{step_of}
 use Rattle.ledgers.specs.declared.Ledger.{Ledger as Code}
 use Rattle.ledgers.specs.Model.{ledger_of}
-use Rattle.segs.specs.declared.segment.Level.{Level}
 use Rattle.segs.specs.declared.segment.PageNumber.{PageNumber}
 use Rattle.turns.specs.declared.plates.Plates.{Plates}
 use Rattle.turns.specs.Tidy.{IsDue, Roomy}
-
--- the first segment is there if its index page is
-paged : (slots : List (List ℕ)) (n : ℕ) → index_of (segs_of slots) ≡ page n → 1 ≤ length slots
-unfolding index_of
-paged [] n e = absurd (let z : ◌≡◌ {A = ℕ} 0 1 = cc in omega arith)
-paged (w ∷ ws) n e = omega arith
 
 module _ (z : Sizes) (late : ℕ) (x : Code) (ok : SizesOk z) where
   is_ready : (s : Step) → IsDue z late (ledger_of x) s → Ready (watermark late (ledger_of x).logs) (step_of s) (ledger_of x).queue
@@ -30,15 +20,6 @@ module _ (z : Sizes) (late : ℕ) (x : Code) (ok : SizesOk z) where
 
   is_calm : (s : Step) → IsDue z late (ledger_of x) s → Calm z (step_of s) (ledger_of x).queue
   is_calm s d = calm_crowd z (watermark late (ledger_of x).logs) (crowd z.segments (ledger_of x).queue.segments (ledger_of x).queue.segments) (ledger_of x).queue (step_of s) d.0
-
-  pub pack_some : (v : Level) → IsDue z late (ledger_of x) (Pack v) → 1 ≤ at_level v.0 (ledger_of x).queue.segments
-  pack_some v d = omega (arith, is_ready (Pack v) d)
-
-  pub unpack_some : (n : PageNumber) → IsDue z late (ledger_of x) (Unpack n) → 1 ≤ length x.queue.segments.items
-  unpack_some n d = paged x.queue.segments.items (is_ready (Unpack n) d).2 (is_ready (Unpack n) d).3
-
-  pub open_some : IsDue z late (ledger_of x) Open → 1 ≤ length x.queue.segments.items
-  open_some d = omega (arith, length-map x.queue.segments.items seg_in, ap length (is_ready Open d).4)
 
   module _ (p : Plates) (room : Roomy z x p) where
     pub lower_fits : IsDue z late (ledger_of x) Lower → length x.queue.buffer.items + x.queue.front.room ≤ x.queue.buffer.room

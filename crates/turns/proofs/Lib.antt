@@ -4,3 +4,4 @@ mod Tasks
 pub mod Shown
 mod Due
 mod Tidied
+mod Wanted

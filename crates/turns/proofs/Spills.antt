@@ -51,7 +51,7 @@ pub spilled_alone : (how : ℕ → Sum) (size i : ℕ) (g : Page) (shown : Maybe
 spilled_alone how size i g shown (Some n) old new out upper r t e s = absurd (let z : ◌≡◌ {A = ℕ} 1 0 = cc in omega arith)
 spilled_alone how size i g shown None old new out upper (Ok w) t e s =
     let k : spill how size i g (queue_of old) ≡ spill how size i Blank (queue_of old) = spill_headless how size i g Blank (queue_of old) (sym e) in
-    (s.0 ∙ ap (λ (a : After). a.queue) k, λ index. s.1 index ∙ ap (λ (a : After). a.writes) k)
+    (s.0, s.1 ∙ ap (λ (a : After). a.queue) k, λ index. s.2 index ∙ ap (λ (a : After). a.writes) k)
 spilled_alone how size i g shown None old new out upper (Err b) t e s = (inr s.0, s.1)
 
 -- a spill as the step that is done

@@ -38,7 +38,7 @@ module _ (r : Rules) (f : Fullest) (shown : Maybe Page) (x : Ledger) (head : pag
       SpilledBy (aggregates_of r.stages.now) r.sizes.rows f.number (page_link f.head) shown x.queue q (rows_of p.rows.out.items) p.rows.upper.items w →
       Tidied r (Spill f) shown x (record { logs = x.logs; pages = x.pages; tail = x.tail; queue = q }) p w
   spilled_tidied q p (Ok w) s =
-      (rw (step, append-nil (ledger_of x).tail) (ap (λ (y : Rattle.book.specs.Queue.Queue). record { logs = (ledger_of x).logs; pages = x.pages.0; tail = (ledger_of x).tail; queue = y }) s.0), s.1 (segs_of p.index.items) ∙ sym (ap (λ (d : Done). d.writes) step))
+      (s.0, rw (step, append-nil (ledger_of x).tail) (ap (λ (y : Rattle.book.specs.Queue.Queue). record { logs = (ledger_of x).logs; pages = x.pages.0; tail = (ledger_of x).tail; queue = y }) s.1), s.2 (segs_of p.index.items) ∙ sym (ap (λ (d : Done). d.writes) step))
   spilled_tidied q p (Err b) s = (why s.0, ap (λ (y : Queue). record { logs = x.logs; pages = x.pages; tail = x.tail; queue = y }) s.1)
     where
       why : {A B : Type 0} → A ⊎ (B ⊎ ((b ≡ Numbers) × (top ≤ suc (suc x.queue.next.0)))) → A ⊎ (B ⊎ ((b ≡ Numbers) × ((top ≤ suc (suc x.queue.next.0)) ⊎ (LevelsFit (segs_of x.queue.segments.items) → ⊥))))

@@ -2,3 +2,4 @@ pub mod Model
 pub mod Task
 pub mod Turn
 pub mod Tidy
+pub mod Done

@@ -1,7 +1,8 @@
 -- What a step came to, by the definitions of the book; and why it is not done.
 -- Assumes nothing.
 use Rattle.std.specs.Prelude.{◌≡◌, ℕ, suc, ◌≤◌, ◌⊎◌, Bool, true, false, List, [], ◌∷◌, Ok, Err, Result, length, ◌+◌, ◌/◌, ◌<◌}
-use Rattle.streams.specs.Meaning.{Sum, top}
+use Rattle.streams.specs.Meaning.{Event, Sum, top}
+use Rattle.book.specs.Ledger.{OutWrite}
 use Rattle.book.specs.Queue as book
 use Rattle.book.specs.Rows.{Row}
 use Rattle.book.specs.Due.{Sizes}
@@ -51,7 +52,18 @@ pages_written (Out n) out upper index = []
 pages_written (Index n) out upper index = record { number = n.0; content = book.IndexPage index } ∷ []
 pages_written (Rows first spilt) out upper index = (spilt_of first.0 no_segment out upper spilt).writes
 
+-- the out page that was written
+abbrev pub outs_written : Written → List Event → List OutWrite
+outs_written Nothing es = []
+outs_written (Out n) es = record { number = n.0; events = es } ∷ []
+outs_written (Index n) es = []
+outs_written (Rows first spilt) es = []
+
+-- no out page was written
+abbrev pub NoOut : Written → Type 0
+NoOut w = (es : List Event) → outs_written w es ≡ []
+
 -- rows of the buffer are in the pages of the i-th segment; or there is no room for one more, or for page numbers, and the queue is as it was
 abbrev pub Spilled : (ℕ → Sum) → (size i : ℕ) → (shown : book.Page) → (old new : Queue) → (out upper : List Row) → Result Written Beyond → Type 0
-Spilled how size i shown old new out upper (Ok w) = (queue_of new ≡ (book.spill how size i shown (queue_of old)).queue) × ((index : List book.Seg) → pages_written w out upper index ≡ (book.spill how size i shown (queue_of old)).writes)
+Spilled how size i shown old new out upper (Ok w) = NoOut w × (queue_of new ≡ (book.spill how size i shown (queue_of old)).queue) × ((index : List book.Seg) → pages_written w out upper index ≡ (book.spill how size i shown (queue_of old)).writes)
 Spilled how size i shown old new out upper (Err b) = (HasRoom 1 old.segments (Err b) ⊎ ((b ≡ Numbers) × (top ≤ suc (suc old.next.0)))) × (new ≡ old)

@@ -22,7 +22,7 @@ use Rattle.turns.specs.declared.plates.Beyond.{Beyond}
 use Rattle.turns.specs.declared.plates.Beyond.TheVariants.{Shown, Numbers}
 use Rattle.turns.specs.declared.plates.Written.{Written}
 use Rattle.turns.specs.declared.rules.Rules.{Rules}
-use Rattle.turns.specs.Model.{HasRoom, pages_written}
+use Rattle.turns.specs.Model.{HasRoom, NoOut, pages_written}
 use Rattle.turns.specs.Turn.{on_shown, RowsFit, segments_shown}
 
 -- the step is due on the ledger's queue, and carries what is to be known for it
@@ -71,7 +71,7 @@ Stopped r s shown x b =
 -- what the step came to; or why it is not done, and the ledger is as it was
 abbrev pub Tidied : Rules → Step → Maybe book.Page → (old new : Code) → Plates → Result Written Beyond → Type 0
 Tidied r s shown old new p (Ok w) =
-    (ledger_of new ≡ (turned (ledger_of old) (done r s shown (ledger_of old))).ledger) × (pages_written w (rows_of p.rows.out.items) p.rows.upper.items (segs_of p.index.items) ≡ (done r s shown (ledger_of old)).writes)
+    NoOut w × (ledger_of new ≡ (turned (ledger_of old) (done r s shown (ledger_of old))).ledger) × (pages_written w (rows_of p.rows.out.items) p.rows.upper.items (segs_of p.index.items) ≡ (done r s shown (ledger_of old)).writes)
 Tidied r s shown old new p (Err b) = Stopped r s shown old b × (new ≡ old)
 
 abbrev pub SamePlates : (old new : Plates) → Type 0

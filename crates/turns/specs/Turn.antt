@@ -15,7 +15,7 @@ use Rattle.turns.specs.declared.plates.Beyond.{Beyond}
 use Rattle.turns.specs.declared.plates.Beyond.TheVariants.{Shown, Numbers}
 use Rattle.turns.specs.declared.plates.Written.{Written}
 use Rattle.turns.specs.declared.plates.Written.TheVariants.{Nothing}
-use Rattle.turns.specs.Model.{HasRoom, pages_written}
+use Rattle.turns.specs.Model.{HasRoom, NoOut, pages_written}
 
 -- by the page that is shown; with none nothing is done
 abbrev pub on_shown : {A : Type 0} → A → (book.Page → A) → Maybe book.Page → A
@@ -60,5 +60,5 @@ spilled_by how z i (book.page n) shown q = on_shown (record { queue = q; writes 
 
 -- rows of the buffer are in the segment's pages; or the page is none that this can be done with, or there is no room for one segment more, or for page numbers, and the queue is as it was
 abbrev pub SpilledBy : (ℕ → Sum) → (size i : ℕ) → (head : book.Link) → Maybe book.Page → (old new : Queue) → (out upper : List Row) → Result Written Beyond → Type 0
-SpilledBy how z i head shown old new out upper (Ok w) = (queue_of new ≡ (spilled_by how z i head shown (queue_of old)).queue) × ((index : List book.Seg) → pages_written w out upper index ≡ (spilled_by how z i head shown (queue_of old)).writes)
+SpilledBy how z i head shown old new out upper (Ok w) = NoOut w × (queue_of new ≡ (spilled_by how z i head shown (queue_of old)).queue) × ((index : List book.Seg) → pages_written w out upper index ≡ (spilled_by how z i head shown (queue_of old)).writes)
 SpilledBy how z i head shown old new out upper (Err b) = (((b ≡ Shown) × (RowsFit z shown → ⊥)) ⊎ HasRoom 1 old.segments (Err b) ⊎ ((b ≡ Numbers) × (top ≤ suc (suc old.next.0)))) × (new ≡ old)

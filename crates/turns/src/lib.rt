@@ -10,3 +10,4 @@ pub mod rules;
 mod segments;
 pub mod task;
 mod tidy;
+pub mod turn;

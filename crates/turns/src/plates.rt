@@ -33,4 +33,6 @@ pub enum Beyond {
     Segments,
     // the number of a page, or a level, would be beyond 64 bits
     Numbers,
+    // the buffer has too many rows, and there is no segment for them
+    Loose,
 }

@@ -1,11 +1,9 @@
 // What a ledger says must be done next, and the page that must be shown for it.
-ghost use Rattle.std.specs.Prelude.{◌≡◌, ◌≤◌, ◌⊎◌, length};
-ghost use Rattle.book.specs.Ledger.{wanted as wanted_of, shows_of};
 ghost use Rattle.ledgers.specs.Model.{ledger_of};
-ghost use Rattle.segs.specs.Model.{page_link};
 ghost use Rattle.sizes.specs.Model.{sizes_of};
-ghost use Rattle.turns.specs.Task.{as_wanted, Known, Shows};
+ghost use Rattle.turns.specs.Task.{IsWanted, Shows};
 
+use crate::plates::Beyond;
 use dues::{Step, due};
 use ledgers::Ledger;
 use marks::watermark;
@@ -27,23 +25,26 @@ impl Task {
         ensures { Shows self.now result }
     {
         match self {
-            Task::Tidy(Step::Spill(fullest)) => fullest.head,
-            Task::Tidy(Step::Sift(page) | Step::Unpack(page)) => Some(*page),
-            Task::Publish | Task::Tidy(_) => None,
+            Task::Publish => None,
+            Task::Tidy(step) => step.shown(),
         }
     }
 }
 
 // What must be done next, if anything.
-pub fn wanted(ledger: &Ledger<'_>, late: Span, sizes: &Sizes) -> Option<Task>
-    requires { (1 ≤ length ledger.now.queue.segments.items) ⊎ (length ledger.now.queue.buffer.items ≤ sizes.now.buffer) }
-    ensures task { as_wanted result ≡ wanted_of (sizes_of sizes.now) late.0 (ledger_of ledger.now) }
-    ensures known { Known (ledger_of ledger.now) result }
+pub fn wanted(ledger: &Ledger<'_>, late: Span, sizes: &Sizes) -> Result<Option<Task>, Beyond>
+    ensures { IsWanted (sizes_of sizes.now) late.0 (ledger_of ledger.now) result }
 {
     if ledger.tail.as_slice().len() >= sizes.outs {
-        return Some(Task::Publish);
+        return Ok(Some(Task::Publish));
+    }
+    let queue = &ledger.queue;
+    if queue.segments.as_slice().is_empty() && queue.buffer.as_slice().len() > sizes.buffer {
+        return Err(Beyond::Loose);
     }
     let mark = watermark(ledger.logs.as_slice(), late);
-    let step = due(&ledger.queue, mark, sizes)?;
-    Some(Task::Tidy(step))
+    let Some(step) = due(queue, mark, sizes) else {
+        return Ok(None);
+    };
+    Ok(Some(Task::Tidy(step)))
 }

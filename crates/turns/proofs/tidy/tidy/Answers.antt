@@ -1,9 +1,6 @@
-use Rattle.turns.proofs.Due.{pack_some, unpack_some, open_some, lower_fits, sift_front, sift_buffer, emit_buffer, open_front}
+use Rattle.turns.proofs.Due.{lower_fits, sift_front, sift_buffer, emit_buffer, open_front}
 use Rattle.turns.proofs.Tidied.{spilled_tidied}
 use Rattle.turns.proofs.tidy.tidy.Goals as goal
-
-pub pack_level-requires-clause-some : goal.pack_level-requires-clause-some
-pack_level-requires-clause-some c = pack_some _ _ c.args.ledger.now c.requires.sizes c.in-Pack.level (rw c.in-Pack.is at c.requires.due)
 
 pub lower_front-requires : goal.lower_front-requires
 lower_front-requires c = record { buffer = lower_fits _ _ c.args.ledger.now c.requires.sizes c.args.plates.now c.requires.room (rw c.in-Lower.is at c.requires.due) }
@@ -17,14 +14,8 @@ sift_page-requires-clause-buffer c = sift_buffer _ _ c.args.ledger.now c.require
 pub emit-requires-clause-buffer : goal.emit-requires-clause-buffer
 emit-requires-clause-buffer c = emit_buffer _ _ c.args.ledger.now c.requires.sizes c.args.plates.now c.requires.room (rw c.in-Emit.is at c.requires.due)
 
-pub unpack_shown-requires : goal.unpack_shown-requires
-unpack_shown-requires c = record { some = unpack_some _ _ c.args.ledger.now c.requires.sizes _ (rw c.in-Unpack.is at c.requires.due) }
-
-pub open-requires-clause-some : goal.open-requires-clause-some
-open-requires-clause-some c = open_some _ _ c.args.ledger.now c.requires.sizes (rw c.in-Open.is at c.requires.due)
-
-pub open-requires-clause-front : goal.open-requires-clause-front
-open-requires-clause-front c = open_front _ _ c.args.ledger.now c.requires.sizes c.args.plates.now c.requires.room (rw c.in-Open.is at c.requires.due)
+pub open-requires : goal.open-requires
+open-requires c = open_front _ _ c.args.ledger.now c.requires.sizes c.args.plates.now c.requires.room (rw c.in-Open.is at c.requires.due)
 
 pub returns-in-Spill-clause-tidied : goal.returns-in-Spill-clause-tidied
-returns-in-Spill-clause-tidied c = rw c.in-Spill.is (spilled_tidied c.args.rules.now c.in-Spill.fullest _ c.args.ledger.now (rw c.in-Spill.is at c.requires.due).1.1 c.spill_shown.new.queue (record { rows = c.spill_shown.new.pages; index = c.args.plates.now.index; events = c.args.plates.now.events }) c.spill_shown.result c.spill_shown.ensures.spilled)
+returns-in-Spill-clause-tidied c = rw c.in-Spill.is (spilled_tidied c.args.rules.now c.in-Spill.fullest _ c.args.ledger.now (rw c.in-Spill.is at c.requires.due).1.2 c.spill_shown.new.queue (record { rows = c.spill_shown.new.pages; index = c.args.plates.now.index; events = c.args.plates.now.events }) c.spill_shown.result c.spill_shown.ensures.spilled)
