@@ -6,5 +6,4 @@ mod flat;
 pub mod form;
 pub mod ledger;
 pub mod log;
-pub mod numbers;
 pub mod page;

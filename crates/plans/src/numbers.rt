@@ -20,6 +20,18 @@ pub struct Value(pub u64);
 #[derive(Clone, Copy, PartialEq, Eq, PartialOrd, Ord, Debug)]
 pub struct LogNumber(pub u8);
 
+// How many entries were put into a log.
+#[derive(Clone, Copy, PartialEq, Eq, PartialOrd, Ord, Debug)]
+pub struct EntryCount(pub u64);
+
+// How many of a log's events in time, from its first on: a place among them too.
+#[derive(Clone, Copy, PartialEq, Eq, PartialOrd, Ord, Debug)]
+pub struct EventCount(pub u64);
+
+// The number of a page of what came out, from 0 on.
+#[derive(Clone, Copy, PartialEq, Eq, PartialOrd, Ord, Debug)]
+pub struct OutPage(pub u64);
+
 // A place in what came out, from 0 on.
 #[derive(Clone, Copy, PartialEq, Eq, PartialOrd, Ord, Debug)]
 pub struct Place(pub u64);

@@ -1,6 +1,6 @@
 // Where a step writes its pages, which of them it wrote, and why it is not done.
 
-use ledgers::OutPage;
+use plans::numbers::OutPage;
 use plans::entries::EventWords;
 use segs::segment::{PageNumber, Segments};
 use spills::pages::{Pages, Spilt};
