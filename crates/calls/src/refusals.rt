@@ -6,9 +6,7 @@ ghost use Rattle.calls.specs.Refuse.{Refuses};
 
 use crate::kinds::{Call, Refusal};
 use plans::entries::Entry;
-
-// Times are below this: 2 to the 62.
-const TIMES_END: u64 = 4_611_686_018_427_387_904;
+use plans::numbers::TIMES_END;
 
 // So many events at most are asked for at once.
 pub const MOST: u16 = 1024;

@@ -4,6 +4,9 @@
 #[derive(Clone, Copy, PartialEq, Eq, PartialOrd, Ord, Debug)]
 pub struct Time(pub u64);
 
+// Times that are put in are below this.
+pub const TIMES_END: u64 = 1 << 62;
+
 // A length of time in milliseconds: a window's size, a plan's lateness.
 #[derive(Clone, Copy, PartialEq, Eq, PartialOrd, Ord, Debug)]
 pub struct Span(pub u64);
