@@ -18,7 +18,7 @@ use Rattle.book.specs.Limits.{Limits, longest}
 use Rattle.book.specs.Levels.{Within}
 use Rattle.book.specs.Interface.{horizon, lacks, gives, page, reply, Ops, Now, Tag}
 use Rattle.book.specs.Interface as face
-use Rattle.book.specs.Right.{Right, Floor}
+use Rattle.book.specs.Right.{Right, Floor, TookAll}
 use Rattle.book.specs.Real.{sizes, log_or, ledger_or, or_none, floor_of, raised, raise_by, adds_by, answer_by, real, are_other}
 use Rattle.book.specs.Ends.{most_steps}
 use Rattle.book.specs.Live.{Live, AnswersAll}
@@ -208,34 +208,25 @@ module _ (p : Plan) (ok : T (plan_ok p)) (logs : ℕ) (hl : logs ≤ 256) where
           still : (turn_of sizes p d.task b).ledger ≡ b.ledger
           still = just_same (turn_of sizes p d.task b).ledger b.ledger (sym (after_reads sizes sizes_ok p (fine p ok logs hl) logs longest (Within sizes) lim n ls f r x hn d) ∙ ap (ledger_or logs) (sym (differs_not (f 0).bytes (O.after (f 0).bytes x) e)) ∙ r.ledger)
 
-  -- ALL OF A LOG'S BOX IS TAKEN, with its latest time
-  pub record Took (x : List ℕ) (l : ℕ) (bs : List ℕ) : Type 0 where
-    ledger : Ledger
-    box : LogBox
-    reads : ledger_or logs x ≡ just ledger
-    holds : log_or bs ≡ just box
-    taken : box.base + length box.events ≤ (taken_of l ledger.logs).taken
-    last : box.latest ≤ (taken_of l ledger.logs).latest
-
   -- a ledger that has taken no less
-  took_on : (x y : List ℕ) (l : ℕ) (bs : List ℕ) (u v : Ledger) → ledger_or logs x ≡ just u → ledger_or logs y ≡ just v → (taken_of l u.logs).taken ≤ (taken_of l v.logs).taken → (taken_of l u.logs).latest ≤ (taken_of l v.logs).latest → Took x l bs → Took y l bs
+  took_on : (x y : List ℕ) (l : ℕ) (bs : List ℕ) (u v : Ledger) → ledger_or logs x ≡ just u → ledger_or logs y ≡ just v → (taken_of l u.logs).taken ≤ (taken_of l v.logs).taken → (taken_of l u.logs).latest ≤ (taken_of l v.logs).latest → TookAll logs x l bs → TookAll logs y l bs
   took_on x y l bs u v a b h i t =
       let e : t.ledger ≡ u = just_same t.ledger u (sym t.reads ∙ a) in
       record { ledger = v; box = t.box; reads = b; holds = t.holds; taken = omega (arith, t.taken, h, ap (λ (z : Ledger). (taken_of l z.logs).taken) e); last = omega (arith, t.last, i, ap (λ (z : Ledger). (taken_of l z.logs).latest) e) }
 
-  pub took_step : {n : ℕ} {ls : List (List Entry)} {f : ℕ → Box} → n < longest → R n ls f → (x : List ℕ) → Now f (O.due (f 0).bytes) x → (l : ℕ) → Took (f 0).bytes l (f (log_box l)).bytes → Took (O.after (f 0).bytes x) l (f (log_box l)).bytes
+  pub took_step : {n : ℕ} {ls : List (List Entry)} {f : ℕ → Box} → n < longest → R n ls f → (x : List ℕ) → Now f (O.due (f 0).bytes) x → (l : ℕ) → TookAll logs (f 0).bytes l (f (log_box l)).bytes → TookAll logs (O.after (f 0).bytes x) l (f (log_box l)).bytes
   took_step {n} {ls} {f} hn r x nw l t =
       let d : Doing sizes sizes_ok p (fine p ok logs hl) logs longest (Within sizes) lim n ls f r x = doing sizes sizes_ok p (fine p ok logs hl) logs longest (Within sizes) lim n ls f r x nw in
       let g = always_grows sizes p r.book (after_turn (turn_of sizes p d.task r.book) r.book) (turn d.task itself d.want) in
       took_on (f 0).bytes (O.after (f 0).bytes x) l (f (log_box l)).bytes r.book.ledger (turn_of sizes p d.task r.book).ledger r.ledger (after_reads sizes sizes_ok p (fine p ok logs hl) logs longest (Within sizes) lim n ls f r x hn d) (g.taken l) (g.latest l) t
 
-  pub took_other : {n : ℕ} {ls : List (List Entry)} {f : ℕ → Box} → n < longest → R n ls f → O.due (f 0).bytes ≡ face.nothing → (l : ℕ) (y : List ℕ) → l < logs → O.take (f 0).bytes l (f (log_box l)).bytes ≡ gives y → (k : ℕ) → k < logs → Took (f 0).bytes k (f (log_box k)).bytes → Took y k (f (log_box k)).bytes
+  pub took_other : {n : ℕ} {ls : List (List Entry)} {f : ℕ → Box} → n < longest → R n ls f → O.due (f 0).bytes ≡ face.nothing → (l : ℕ) (y : List ℕ) → l < logs → O.take (f 0).bytes l (f (log_box l)).bytes ≡ gives y → (k : ℕ) → k < logs → TookAll logs (f 0).bytes k (f (log_box k)).bytes → TookAll logs y k (f (log_box k)).bytes
   took_other {n} {ls} {f} hn r du l y h tk k hk t =
       let a : Takes p ok logs hl n ls f r l y = takes_of p ok logs hl n ls f r du l y h tk in
       let g = always_grows sizes p r.book (take_into sizes p l (r.book.log l) r.book) (takes l (r.book.log l) itself a.rest) in
       took_on (f 0).bytes y k (f (log_box k)).bytes r.book.ledger (took sizes p.stages l (r.book.log l) r.book.ledger) r.ledger a.reads (g.taken k) (g.latest k) t
 
-  pub took_take : {n : ℕ} {ls : List (List Entry)} {f : ℕ → Box} → n < longest → R n ls f → O.due (f 0).bytes ≡ face.nothing → (l : ℕ) (y : List ℕ) → l < logs → O.take (f 0).bytes l (f (log_box l)).bytes ≡ gives y → O.due y ≡ face.nothing → Took y l (f (log_box l)).bytes
+  pub took_take : {n : ℕ} {ls : List (List Entry)} {f : ℕ → Box} → n < longest → R n ls f → O.due (f 0).bytes ≡ face.nothing → (l : ℕ) (y : List ℕ) → l < logs → O.take (f 0).bytes l (f (log_box l)).bytes ≡ gives y → O.due y ≡ face.nothing → TookAll logs y l (f (log_box l)).bytes
   took_take {n} {ls} {f} hn r du l y h tk dy = record { ledger = v; box = b; reads = a.reads; holds = r.log l h; taken = subst (λ (z : Taken). b.base + length b.events ≤ z.taken) (sym here) (omega (arith, all)); last = subst (λ (z : Taken). b.latest ≤ z.latest) (sym here) last }
     where
       a : Takes p ok logs hl n ls f r l y
@@ -276,7 +267,7 @@ module _ (p : Plan) (ok : T (plan_ok p)) (logs : ℕ) (hl : logs ≤ 256) where
           up m k = grind (arith, nat_tests)
 
   -- ROOM FOR A BATCH once all is taken
-  pub adds_room : {n : ℕ} {ls : List (List Entry)} {f : ℕ → Box} → n < longest → R n ls f → O.due (f 0).bytes ≡ face.nothing → (i c s l : ℕ) (fl : List ℕ) (es : List Entry) → l < logs → Took (f 0).bytes l (f (log_box l)).bytes → Floor logs ls f (O.raise (f 0).bytes fl) → Tag n i c s → ((x : Entry) → Memᴰ x es → T (entry_ok x)) → length es ≤ 8 →
+  pub adds_room : {n : ℕ} {ls : List (List Entry)} {f : ℕ → Box} → n < longest → R n ls f → O.due (f 0).bytes ≡ face.nothing → (i c s l : ℕ) (fl : List ℕ) (es : List Entry) → l < logs → TookAll logs (f 0).bytes l (f (log_box l)).bytes → Floor logs ls f (O.raise (f 0).bytes fl) → Tag n i c s → ((x : Entry) → Memᴰ x es → T (entry_ok x)) → length es ≤ 8 →
       O.adds (O.raise (f 0).bytes fl) i c s l (f (log_box l)).bytes es ≡ lacks → ⊥
   unfolding adds_by raise_by let_go
   adds_room {n} {ls} {f} hn r du i c s l fl es h t fo tag ok' few e =
@@ -349,7 +340,7 @@ module _ (p : Plan) (ok : T (plan_ok p)) (logs : ℕ) (hl : logs ≤ 256) where
     heavy = most_work logs;
     long = 1024;
     left = λ from most l got. less_by (length got) most;
-    Took = Took;
+    Took = TookAll logs;
     enough = enough;
     fits = λ {n} {ls} {f} hn r few b kind. (book_fits p logs n ls f r b kind).1 few;
     work_most = work_most p ok logs hl;
@@ -375,7 +366,7 @@ module _ (p : Plan) (ok : T (plan_ok p)) (logs : ℕ) (hl : logs ≤ 256) where
       each : (l : ℕ) → l < length ls → ((r.book.log (0 + l)).base + length (r.book.log (0 + l)).events ≤ (taken_of l r.book.ledger.logs).taken) × ((r.book.log (0 + l)).latest ≤ (taken_of l r.book.ledger.logs).latest)
       each l i =
           let hx : l < logs = omega (arith, i, r.count) in
-          let t : Took (f 0).bytes l (f (log_box l)).bytes = all l hx in
+          let t : TookAll logs (f 0).bytes l (f (log_box l)).bytes = all l hx in
           let a : t.ledger ≡ r.book.ledger = just_same t.ledger r.book.ledger (sym t.reads ∙ r.ledger) in
           let b : t.box ≡ r.book.log l = just_same t.box (r.book.log l) (sym t.holds ∙ r.log l hx) in
           subst (λ (j : ℕ). ((r.book.log j).base + length (r.book.log j).events ≤ (taken_of l r.book.ledger.logs).taken) × ((r.book.log j).latest ≤ (taken_of l r.book.ledger.logs).latest)) {x = l} (omega arith)

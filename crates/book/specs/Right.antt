@@ -1,6 +1,6 @@
 -- When the boxes, as bytes, are right; and what an old ledger, an old log box and a floor still tell.
 -- Assumes nothing.
-use Rattle.std.specs.Prelude.{◌≡◌, ℕ, ◌<◌, ◌≤◌, ◌&&◌, T, ◌⊎◌, List, ◌++◌, length, ◌≢◌, nat_le}
+use Rattle.std.specs.Prelude.{◌≡◌, ℕ, ◌+◌, ◌<◌, ◌≤◌, ◌&&◌, T, ◌⊎◌, List, ◌++◌, length, ◌≢◌, nat_le}
 use Rattle.streams.specs.Meaning.{Event, Entry, Plan, out}
 use Rattle.streams.specs.Calls.{drop_of, first_of, plan_ok}
 use Rattle.streams.specs.Hands.{Box, all_bytes}
@@ -56,6 +56,15 @@ OldLog late logs ls f l x = l < logs → OldBox late ls l x
 
 abbrev pub Floor : (logs : ℕ) → List (List Entry) → (ℕ → Box) → List ℕ → Type 0
 Floor logs ls f fl = (y : Ledger) → ledger_or logs (f 0).bytes ≡ just y → (l : ℕ) → floor_of l fl ≤ (taken_of l y.logs).taken
+
+-- ALL OF A LOG'S BOX IS TAKEN, with its latest time
+pub record TookAll (logs : ℕ) (x : List ℕ) (l : ℕ) (bs : List ℕ) : Type 0 where
+  pub ledger : Ledger
+  pub box : LogBox
+  pub reads : ledger_or logs x ≡ just ledger
+  pub holds : log_or bs ≡ just box
+  pub taken : box.base + length box.events ≤ (taken_of l ledger.logs).taken
+  pub last : box.latest ≤ (taken_of l ledger.logs).latest
 
 -- a page that the ledger is past
 abbrev pub Page' : Ledger → ℕ → Type 0

@@ -18,4 +18,4 @@ real_whole = worker_core_whole (real sizes) keeps
 
 pub real_within : RealWithin
 real_within p ok logs one few all n al sm es s g i c m lt e =
-    let r = worker_within (real sizes p logs) p logs (book_safe p ok logs few) (book_live p ok logs few) one all n al sm es s g i c m lt e in (r.0, r.1, r.2, r.3, r.4, (let q = r.5 in omega (arith, q)), r.6, r.7)
+    let r = worker_within (real sizes p logs) p logs (book_safe p ok logs few) (book_live p ok logs few) one all n al sm es s g i c m lt e in (r.0, r.1, r.2, r.3, r.4, (let q = r.5 in omega (arith, q)), r.6, r.7, r.8)

@@ -31,7 +31,7 @@ pub fn whole()
     ensures { RealWhole }
 {}
 
-// And within how many turns and answers of the store.
+// And within how many turns and answers of the store, from wherever it is, all is out.
 pub fn how_soon()
     ensures { RealWithin }
 {}
