@@ -17,6 +17,7 @@ pub mod Real
 mod Parts
 mod Safe
 pub mod Small
+mod Sorted
 mod Limits
 pub mod Laws
 pub mod Room
