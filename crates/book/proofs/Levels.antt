@@ -613,25 +613,40 @@ beneath_sums : (d : ℕ) (ss : List Seg) → Beneath d ss → length ss ≤ sums
 beneath_sums d [] b = omega arith
 beneath_sums d (s ∷ ss) b = omega (arith, beneath_sums d ss b.1, sums_more d s ss b.0)
 
-over_sums : (d z : ℕ) (ss : List Seg) → ((v : ℕ) → at_level v ss ≤ suc z) → sums d ss ≤ d * suc z
-over_sums zero z ss h = omega arith
-over_sums (suc d) z ss h = omega (arith, h d, over_sums d z ss h, native.Mathlib.Nat.suc-mul d (suc z))
-
-all_over : (z : ℕ) (ss : List Seg) → OneOver z ss → (v : ℕ) → at_level v ss ≤ suc z
-all_over z ss o v = go (cases_eq v o.0)
+-- all but one level have no more than they should
+over_sums : (d z : ℕ) (ss : List Seg) → (o : OneOver z ss) → sums d ss ≤ cond (ltb o.0 d) (suc (d * z)) (d * z)
+over_sums zero z ss o = rw (le-ltb o.0 0 (omega arith)) (omega arith)
+over_sums (suc d) z ss o = go (Rattle.std.proofs.lemmas.Bool.cases_order d o.0) (over_sums d z ss o)
   where
-    go : (v ≡ o.0) ⊎ (v ≡ o.0 → ⊥) → at_level v ss ≤ suc z
-    go (inl e) = subst (λ (x : ℕ). at_level x ss ≤ suc z) (sym e) o.2
-    go (inr e) = omega (arith, o.1 v e)
+    go : (d ≡ o.0) ⊎ ((d < o.0) ⊎ (o.0 < d)) → sums d ss ≤ cond (ltb o.0 d) (suc (d * z)) (d * z) → at_level d ss + sums d ss ≤ cond (ltb o.0 (suc d)) (suc (suc d * z)) (suc d * z)
+    go (inl e) i = rw (lt-ltb o.0 (suc d) (omega (arith, e))) (omega (arith, here, below, native.Mathlib.Nat.suc-mul d z))
+      where
+        here : at_level d ss ≤ suc z
+        here = subst (λ (v : ℕ). at_level v ss ≤ suc z) (sym e) o.2
 
-segments_few : (z : Sizes) (p : Plan) (n : ℕ) (ls : List (List Entry)) (x : Book) → total ls ≤ 8 * horizon → SoundBook z p ls x → Fits z n ls x → Levels z x → length x.ledger.queue.segments ≤ 60 * suc z.segments
-segments_few z p n ls x h s f l = omega (arith, beneath_sums 60 ss (powers_beneath ss (omega (arith, few, h))), over_sums 60 z.segments ss (all_over z.segments ss l.over))
+        below : sums d ss ≤ d * z
+        below = subst (λ (b : Bool). sums d ss ≤ cond b (suc (d * z)) (d * z)) (le-ltb o.0 d (omega (arith, e))) i
+    go (inr (inl h)) i = rw (le-ltb o.0 (suc d) (omega (arith, h))) (omega (arith, o.1 d (λ (e : d ≡ o.0). omega (arith, e, h)), below, native.Mathlib.Nat.suc-mul d z))
+      where
+        below : sums d ss ≤ d * z
+        below = subst (λ (b : Bool). sums d ss ≤ cond b (suc (d * z)) (d * z)) (le-ltb o.0 d (omega (arith, h))) i
+    go (inr (inr h)) i = rw (lt-ltb o.0 (suc d) (omega (arith, h))) (omega (arith, o.1 d (λ (e : d ≡ o.0). omega (arith, e, h)), below, native.Mathlib.Nat.suc-mul d z))
+      where
+        below : sums d ss ≤ suc (d * z)
+        below = subst (λ (b : Bool). sums d ss ≤ cond b (suc (d * z)) (d * z)) (lt-ltb o.0 d h) i
+
+pub segments_few : (z : Sizes) (p : Plan) (n : ℕ) (ls : List (List Entry)) (x : Book) → total ls ≤ 8 * horizon → SoundBook z p ls x → Fits z n ls x → Levels z x → length x.ledger.queue.segments ≤ 60 * z.segments + 1
+segments_few z p n ls x h s f l = omega (arith, beneath_sums 60 ss (powers_beneath ss (omega (arith, few, h))), most (ltb l.over.0 60) (over_sums 60 z.segments ss l.over))
   where
     ss : List Seg
     ss = x.ledger.queue.segments
 
     g : Held
     g = s.queue.held
+
+    most : (b : Bool) → sums 60 ss ≤ cond b (suc (60 * z.segments)) (60 * z.segments) → sums 60 ss ≤ 60 * z.segments + 1
+    most true i = omega (arith, i)
+    most false i = omega (arith, i)
 
     few : powers ss ≤ total ls
     few = omega (arith, ap (λ (q : Queue). powers q.segments) s.queue.is, powers_few Free x.row g.next g.segs l.flat s.queue.pages.0 s.queue.lean.segs, lows_few (how_of p.stages) g s.queue.order s.queue.alive, s.queue.few, taken_total p.late ls x.ledger.logs f.entries)

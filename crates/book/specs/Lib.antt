@@ -18,3 +18,4 @@ pub mod Room
 pub mod Levels
 pub mod Live
 pub mod Work
+pub mod Lent
