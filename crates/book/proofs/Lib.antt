@@ -25,3 +25,4 @@ pub mod Levels
 pub mod Work
 pub mod Left
 pub mod Live
+pub mod Lent

@@ -31,7 +31,7 @@ entries_append : (xs ys : List Entry) → EntriesFit xs → EntriesFit ys → En
 entries_append [] ys h k = k
 entries_append (x ∷ xs) ys h k = (h.0, entries_append xs ys h.1 k)
 
-entries_left : (xs ys : List Entry) → EntriesFit (xs ++ ys) → EntriesFit xs
+pub entries_left : (xs ys : List Entry) → EntriesFit (xs ++ ys) → EntriesFit xs
 entries_left [] ys h = tt
 entries_left (x ∷ xs) ys h = (h.0, entries_left xs ys h.1)
 
