@@ -19,7 +19,7 @@ use Rattle.book.specs.Right.{Right, OldLedger, OldLog, Floor, Spent, BookLaws, B
 use Rattle.book.proofs.Limits.{limits, events_long, ledger_below, page_below, writes_few}
 use Rattle.book.proofs.Room.{room_kept}
 use Rattle.book.proofs.Levels.{levels_kept, ledger_short}
-use Rattle.book.proofs.Sorted.{sorted_turn}
+use Rattle.book.proofs.Boxes.{boxes_first, boxes_later, boxes_batch, boxes_turn}
 use Rattle.book.proofs.Words.{reads_back}
 use Rattle.book.proofs.Real.{bytes_most, bytes_bytes, calls_none}
 use Rattle.book.proofs.Safe.{laws, answers_all}
@@ -67,11 +67,11 @@ sizes_small = record { emits = omega arith; rows = omega arith; segments = omega
 pub all_limits : (z : Sizes) → SizesOk z → SizesSmall z → (p : Plan) → PlanFine p → PlanSmall p → (logs : ℕ) → logs ≤ 256 → Limits z p logs longest (Within z)
 all_limits z zo sz p pf ps logs hl =
     record {
-      starts = record { fits = L.starts; room = (room_kept z zo p).0 logs; levels = (levels_kept z zo p).0 logs; sorted = λ k. tt };
-      later = λ w. record { fits = L.later w.fits; room = w.room; levels = w.levels; sorted = w.sorted };
-      batch = λ {n} {ls} {x} l floor i c s es h so w hx hf tg ok few room. record { fits = L.batch l floor i c s es h so w.fits hx hf tg ok few room; room = (room_kept z zo p).1 x l floor i (record { life = c; serial = s }) es w.room room; levels = (levels_kept z zo p).1 x l floor i (record { life = c; serial = s }) es w.levels; sorted = w.sorted };
-      take = λ {n} {ls} {x} l b h so w e hx o old. record { fits = L.take l b h so w.fits e hx o old; room = (room_kept z zo p).2 x l b w.room e; levels = (levels_kept z zo p).2 x l b w.levels; sorted = w.sorted };
-      turn = λ {n} {ls} {x} k h so w e. record { fits = L.turn k h so w.fits e; room = (room_kept z zo p).3 n ls x k w.room w.fits e; levels = (levels_kept z zo p).3 n ls x k so w.fits w.levels e; sorted = sorted_turn z p ls x k so w.sorted };
+      starts = record { fits = L.starts; room = (room_kept z zo p).0 logs; levels = (levels_kept z zo p).0 logs; boxes = boxes_first logs };
+      later = λ {n} {ls} {x} w. record { fits = L.later w.fits; room = w.room; levels = w.levels; boxes = boxes_later n x w.boxes };
+      batch = λ {n} {ls} {x} l floor i c s es h so w hx hf tg ok few room. record { fits = L.batch l floor i c s es h so w.fits hx hf tg ok few room; room = (room_kept z zo p).1 x l floor i (record { life = c; serial = s }) es w.room room; levels = (levels_kept z zo p).1 x l floor i (record { life = c; serial = s }) es w.levels; boxes = boxes_batch p n x l floor i (record { life = c; serial = s }) es tg.life tg.upto w.boxes };
+      take = λ {n} {ls} {x} l b h so w e hx o old. record { fits = L.take l b h so w.fits e hx o old; room = (room_kept z zo p).2 x l b w.room e; levels = (levels_kept z zo p).2 x l b w.levels; boxes = record { rows = w.boxes.rows; outs = w.boxes.outs; served = w.boxes.served } };
+      turn = λ {n} {ls} {x} k h so w e. record { fits = L.turn k h so w.fits e; room = (room_kept z zo p).3 n ls x k w.room w.fits e; levels = (levels_kept z zo p).3 n ls x k so w.fits w.levels e; boxes = boxes_turn z p n ls x k so w.fits w.boxes };
       ledger_words = λ k h so w e. L.ledger_words k h so w.fits e;
       page_words = λ k v h so w e a. L.page_words k v h so w.fits e a;
       out_words = λ k v h so w e a. L.out_words k v h so w.fits e a;

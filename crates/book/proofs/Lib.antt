@@ -17,8 +17,8 @@ pub mod Real
 mod Parts
 mod Safe
 pub mod Small
-mod Sorted
 mod Limits
+mod Boxes
 pub mod Laws
 pub mod Room
 pub mod Levels

@@ -101,7 +101,7 @@ events_drop s zero es h = h
 events_drop s (suc n) [] h = tt
 events_drop s (suc n) (e ∷ es) h = events_drop s n es h.1
 
-events_take : (s n : ℕ) (es : List Event) → EventsFit s es → EventsFit s (take n es)
+pub events_take : (s n : ℕ) (es : List Event) → EventsFit s es → EventsFit s (take n es)
 events_take s zero es h = tt
 events_take s (suc n) [] h = tt
 events_take s (suc n) (e ∷ es) h = (h.0, events_take s n es h.1)

@@ -2,7 +2,6 @@
 -- Assumes nothing.
 use Rattle.std.specs.Prelude.{◌≡◌, ℕ, suc, ◌*◌, ◌<◌, ◌≤◌, List, [], ◌∷◌, length, ◌≢◌}
 use Rattle.streams.specs.Meaning.{Entry, Plan}
-use Rattle.book.specs.Rows.{Sorted}
 use Rattle.book.specs.Queue.{Seg, Page, Blank, RowPage, IndexPage}
 use Rattle.book.specs.Due.{Sizes, SizesOk, at_level}
 use Rattle.book.specs.Ledger.{Served, LogBox, Task, Want, wanted}
@@ -11,6 +10,7 @@ use Rattle.book.specs.Book.{Book, empty_book, SoundBook, put_batch, take_into, t
 use Rattle.book.specs.Small.{total, Fits}
 use Rattle.book.specs.Interface.{horizon}
 use Rattle.book.specs.Room.{Room}
+use Rattle.book.specs.Boxes.{Boxes}
 use Rattle.book.specs.Real.{sizes}
 
 -- never below a level, and never falling
@@ -52,15 +52,9 @@ LedgerShort =
     (p : Plan) (n : ℕ) (ls : List (List Entry)) (x : Book) → total ls ≤ 8 * horizon → SoundBook sizes p ls x → Fits sizes n ls x → Room sizes x → Levels sizes x →
     (length (bytes_of (write_ledger x.ledger)) < 1048576) × (AreWords (write_ledger x.ledger) → length (bytes_of (write_ledger x.ledger)) < 262144)
 
--- the rows of a row page, sorted
-abbrev pub SortedPage : Page → Type 0
-SortedPage Blank = Unit {0}
-SortedPage (RowPage below rs) = Sorted rs
-SortedPage (IndexPage ss) = Unit {0}
-
 -- ALL LIMITS of a book, after at most so many steps
 pub record Within (z : Sizes) (n : ℕ) (ls : List (List Entry)) (x : Book) : Type 0 where
   pub fits : Fits z n ls x
   pub room : Room z x
   pub levels : Levels z x
-  pub sorted : (k : ℕ) → SortedPage (x.row k)
+  pub boxes : Boxes n x

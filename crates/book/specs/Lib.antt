@@ -15,6 +15,7 @@ pub mod Limits
 pub mod Small
 pub mod Right
 pub mod Room
+pub mod Boxes
 pub mod Levels
 pub mod Live
 pub mod Work

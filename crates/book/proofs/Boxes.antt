@@ -1,15 +1,20 @@
--- The rows of every row page are sorted: a page is written with rows of the buffer, merged with those of a page.
-use Rattle.std.proofs.Common.{ℕ, zero, suc, ◌+◌, ◌/◌, Bool, true, false, cond, eqb, leb, List, [], ◌∷◌, length, take, drop, sym, subst}
-use Rattle.streams.specs.Meaning.{Entry, Plan, Stage, Sum}
+-- What holds of the boxes of pages and logs is kept: a row page is written with rows of the buffer, merged with those of a page; an out page with events of the tail; a batch with the tag of its worker.
+use Rattle.std.proofs.Common.{ℕ, zero, suc, ◌+◌, ◌/◌, ◌<◌, ◌≤◌, Bool, true, false, cond, eqb, leb, List, [], ◌∷◌, length, take, drop, replicate, sym, refl, subst, inl, inr, arith}
+use Rattle.streams.specs.Meaning.{top, Event, Entry, Plan, Stage, Sum}
 use Rattle.book.specs.Rows.{Row, Sorted, onto}
 use Rattle.book.specs.Queue.{Link, nil, page, Seg, Page, Blank, RowPage, IndexPage, Pages, Write, written, Queue, page_of, is_of, pick, Spilled, split_by, one_page, too_full, merge_by, spill_by, spill_at, pack_by}
 use Rattle.book.specs.Flow.{how_of}
 use Rattle.book.specs.Due.{Sizes, Step, Spill, Lower, Pack, Sift, Emit, Unpack, Open, at_level, below_level, pack_many, do', shows}
-use Rattle.book.specs.Ledger.{Task, Publish, Tidy, watermark}
-use Rattle.book.specs.Book.{Book, SoundBook, turn_of, after_turn}
-use Rattle.book.specs.Levels.{SortedPage}
+use Rattle.book.specs.Ledger.{Served, workers, nobody, batched, set_at, Task, Publish, Tidy, watermark, OutWrite, out_written}
+use Rattle.book.specs.Book.{Book, empty_book, SoundBook, put_batch, turn_of, after_turn}
+use Rattle.book.specs.Numbers.{Among}
+use Rattle.book.specs.Small.{EventsFit, Fits}
+use Rattle.book.specs.Boxes.{SortedPage, ServedFit, Boxes}
 use Rattle.book.proofs.Lists.{sorted_onto, sorted_left, sorted_right, sorted_pick}
+use Rattle.book.proofs.Real.{batch_served}
+use Rattle.book.proofs.Limits.{events_take}
 
+-- ROW PAGES
 abbrev SortedWrites : List Write → Type 0
 SortedWrites [] = Unit {0}
 SortedWrites (w ∷ ws) = SortedPage w.content × SortedWrites ws
@@ -86,10 +91,62 @@ shown_sorted : (f : Pages) (l : Link) → ((k : ℕ) → SortedPage (f k)) → S
 shown_sorted f nil h = tt
 shown_sorted f (page n) h = h n
 
-pub sorted_turn : (z : Sizes) (p : Plan) (ls : List (List Entry)) (x : Book) (k : Task) → SoundBook z p ls x → ((j : ℕ) → SortedPage (x.row j)) → (j : ℕ) → SortedPage ((after_turn (turn_of z p k x) x).row j)
+-- OUT PAGES
+out_fits : (ws : List OutWrite) (f : ℕ → List Event) (t : ℕ) → ((w : OutWrite) → Among w ws → EventsFit 8 w.events) → EventsFit 8 (f t) → EventsFit 8 (out_written ws f t)
+unfolding out_written
+out_fits [] f t h e = e
+out_fits (w ∷ ws) f t h e = go (eqb t w.number) (out_fits ws f t (λ v a. h v (inr a)) e)
+  where
+    go : (b : Bool) → EventsFit 8 (out_written ws f t) → EventsFit 8 (cond b w.events (out_written ws f t))
+    go true i = h w (inl refl)
+    go false i = i
+
+-- WHO WAS SERVED
+nobody_fits : (k : ℕ) → ServedFit 0 (replicate k nobody)
+nobody_fits zero = tt
+nobody_fits (suc k) = (omega arith, omega arith, nobody_fits k)
+
+served_up : (n m : ℕ) (ss : List Served) → n ≤ m → ServedFit n ss → ServedFit m ss
+served_up n m [] h f = tt
+served_up n m (s ∷ ss) h f = (f.0, omega (arith, f.1, h), served_up n m ss h f.2)
+
+set_fits : (n i : ℕ) (s : Served) (ss : List Served) → s.life < top → s.serial ≤ n → ServedFit n ss → ServedFit n (set_at i s ss)
+unfolding set_at
+set_fits n i s [] a b f = tt
+set_fits n zero s (x ∷ ss) a b f = (a, b, f.2)
+set_fits n (suc i) s (x ∷ ss) a b f = (f.0, f.1, set_fits n i s ss a b f.2)
+
+-- THE BOXES
+pub boxes_first : (logs : ℕ) → Boxes 0 (empty_book logs)
+boxes_first logs = record { rows = λ k. tt; outs = λ t. tt; served = λ l. nobody_fits workers }
+
+pub boxes_later : (n : ℕ) (x : Book) → Boxes n x → Boxes (suc n) x
+boxes_later n x b = record { rows = b.rows; outs = b.outs; served = λ l. served_up n (suc n) (x.log l).served (omega arith) (b.served l) }
+
+pub boxes_batch : (p : Plan) (n : ℕ) (x : Book) (l floor i : ℕ) (s : Served) (es : List Entry) → s.life < top → s.serial ≤ n → Boxes n x → Boxes (suc n) (put_batch p l floor i s es x)
+boxes_batch p n x l floor i s es hl hs b = record { rows = b.rows; outs = b.outs; served = served }
+  where
+    served : (k : ℕ) → ServedFit (suc n) (cond (eqb k l) (batched p.late floor i s es (x.log l)) (x.log k)).served
+    served k = go (eqb k l)
+      where
+        go : (c : Bool) → ServedFit (suc n) (cond c (batched p.late floor i s es (x.log l)) (x.log k)).served
+        go true = subst (ServedFit (suc n)) (sym (batch_served p.late floor i s es (x.log l))) (set_fits (suc n) i s (x.log l).served hl (omega (arith, hs)) ((boxes_later n x b).served l))
+        go false = (boxes_later n x b).served k
+
+pub boxes_turn : (z : Sizes) (p : Plan) (n : ℕ) (ls : List (List Entry)) (x : Book) (k : Task) → SoundBook z p ls x → Fits z n ls x → Boxes n x → Boxes (suc n) (after_turn (turn_of z p k x) x)
 unfolding written
-sorted_turn z p ls x Publish s h j = h j
-sorted_turn z p ls x (Tidy step) s h j =
-    let m : ℕ = watermark p.late x.ledger.logs in
-    let shown : Page = page_of x.row (shows step x.ledger.queue) in
-    written_sorted (do' z p.stages m step shown x.ledger.queue).writes x.row j (step_sorted z p.stages m step shown x.ledger.queue (shown_sorted x.row (shows step x.ledger.queue) h) (subst (λ (q : Queue). Sorted q.buffer) (sym s.queue.is) s.queue.order.buffer)) (h j)
+boxes_turn z p n ls x Publish s f b = record { rows = b.rows; outs = λ t. out_fits (record { number = x.ledger.pages; events = take z.outs x.ledger.tail } ∷ []) x.out t one (b.outs t); served = (boxes_later n x b).served }
+  where
+    one : (w : OutWrite) → Among w (record { number = x.ledger.pages; events = take z.outs x.ledger.tail } ∷ []) → EventsFit 8 w.events
+    one w (inl e) = subst (λ (v : OutWrite). EventsFit 8 v.events) (sym e) (events_take 8 z.outs x.ledger.tail f.tail)
+    one w (inr h) = absurd h
+boxes_turn z p n ls x (Tidy step) s f b = record { rows = rows; outs = λ t. out_fits [] x.out t (λ w a. absurd a) (b.outs t); served = (boxes_later n x b).served }
+  where
+    m : ℕ
+    m = watermark p.late x.ledger.logs
+
+    shown : Page
+    shown = page_of x.row (shows step x.ledger.queue)
+
+    rows : (j : ℕ) → SortedPage (written (do' z p.stages m step shown x.ledger.queue).writes x.row j)
+    rows j = written_sorted (do' z p.stages m step shown x.ledger.queue).writes x.row j (step_sorted z p.stages m step shown x.ledger.queue (shown_sorted x.row (shows step x.ledger.queue) b.rows) (subst (λ (q : Queue). Sorted q.buffer) (sym s.queue.is) s.queue.order.buffer)) (b.rows j)
