@@ -27,7 +27,7 @@ use Rattle.book.proofs.Book.{logs_long}
 use Rattle.book.proofs.Numbers.{always_grows}
 use Rattle.book.proofs.Ends.{Marked, Sinks, mark_turn, marked, taken_set, room_to_take}
 use Rattle.book.proofs.Limits.{logs_fit_at, latest_fits, in_time_fits, events_drop, event_ok, time_ok, below_append, events_below}
-use Rattle.book.proofs.Small.{events_append}
+use Rattle.book.proofs.Small.{events_up, events_append}
 use Rattle.book.proofs.Parts.{length_drop_of}
 use Rattle.book.proofs.Real.{just_same, calls_none, batch_served}
 use Rattle.book.proofs.Safe.{due_is, doing, Doing, after_reads, moves, log_right, answer_tells, pages_full, in_page}
@@ -90,10 +90,6 @@ all_entered late m [] b ok f = (subst (λ (k : ℕ). BoxFit k b) (omega arith) f
 all_entered late m (e ∷ es) b ok f =
     let r : BoxFit (suc m + length es) (entered_all late es (entered late e b)) × ((entered_all late es (entered late e b)).base ≡ (entered late e b).base) = all_entered late (suc m) es (entered late e b) (λ x k. ok x (Memᴰ.tail k)) (entered_fit late m e b (ok e (Memᴰ.head refl)) f) in
     (subst (λ (k : ℕ). BoxFit k (entered_all late es (entered late e b))) (omega arith) r.0, r.1 ∙ entered_base late e b)
-
-events_up : (es : List Event) → EventsFit 0 es → EventsFit 8 es
-events_up [] h = tt
-events_up (e ∷ es) h = ((omega (arith, h.0.0), h.0.1, h.0.2), events_up es h.1)
 
 -- who was served, as a box that is read has it
 served_none : (n : ℕ) → Below wide (write_all write_served (replicate n nobody))

@@ -241,6 +241,10 @@ event_fits r k v = (omega (arith, k.1, less_by_is 1 r.at.end), k.2, v)
 event_up : (s : ℕ) (e : Event) → s ≤ 8 → EventFit s e → EventFit 8 e
 event_up s e h f = (omega (arith, f.0, h), f.1, f.2)
 
+pub events_up : (es : List Event) → EventsFit 0 es → EventsFit 8 es
+events_up [] h = tt
+events_up (e ∷ es) h = (event_up 0 e (omega arith) h.0, events_up es h.1)
+
 abbrev OnFits : Onward → Type 0
 OnFits (Out e) = EventFit 8 e
 OnFits (On r) = KeyFit r.at × (r.value < top)
