@@ -1,6 +1,6 @@
 -- A spill, done on the ledger.
 -- Assumes nothing.
-use Rattle.std.proofs.Common.{◌≡◌, suc, ◌≤◌, ◌⊎◌, map, inl, inr, sym, ap, ◌∙◌, append-nil, Ok, Err, Result}
+use Rattle.std.proofs.Common.{◌≡◌, suc, ◌≤◌, ◌⊎◌, map, inl, inr, subst, sym, ap, ◌∙◌, append-nil, Ok, Err, Result}
 use Rattle.book.specs.Queue.{Link, After, head_at}
 use Rattle.book.specs.Due.{Done, quiet}
 use Rattle.book.specs.Due as due
@@ -21,10 +21,10 @@ use Rattle.turns.specs.declared.plates.Plates.{Plates}
 use Rattle.streams.specs.Meaning.{top}
 use Rattle.packs.specs.Model.{LevelsFit}
 use Rattle.turns.specs.declared.plates.Beyond.{Beyond}
-use Rattle.turns.specs.declared.plates.Beyond.TheVariants.{Numbers}
+use Rattle.turns.specs.declared.plates.Beyond.TheVariants.{Shown, Numbers}
 use Rattle.turns.specs.declared.plates.Written.{Written}
 use Rattle.turns.specs.declared.rules.Rules.{Rules}
-use Rattle.turns.specs.Turn.{SpilledBy, spilled_by}
+use Rattle.turns.specs.Turn.{IsPage, SpilledBy, spilled_by}
 use Rattle.turns.specs.Tidy.{Tidied, done, done_by}
 use Rattle.turns.proofs.Spills.{spilled_done}
 
@@ -41,7 +41,8 @@ module _ (r : Rules) (f : Fullest) (shown : Maybe Page) (x : Ledger) (head : pag
       (s.0, rw (step, append-nil (ledger_of x).tail) (ap (λ (y : Rattle.book.specs.Queue.Queue). record { logs = (ledger_of x).logs; pages = x.pages.0; tail = (ledger_of x).tail; queue = y }) s.1), s.2 (segs_of p.index.items) ∙ sym (ap (λ (d : Done). d.writes) step))
   spilled_tidied q p (Err b) s = (why s.0, ap (λ (y : Queue). record { logs = x.logs; pages = x.pages; tail = x.tail; queue = y }) s.1)
     where
-      why : {A B : Type 0} → A ⊎ (B ⊎ ((b ≡ Numbers) × (top ≤ suc (suc x.queue.next.0)))) → A ⊎ (B ⊎ ((b ≡ Numbers) × ((top ≤ suc (suc x.queue.next.0)) ⊎ (LevelsFit (segs_of x.queue.segments.items) → ⊥))))
-      why (inl a) = inl a
+      why : {A B : Type 0} → ((b ≡ Shown) × IsPage (page_link f.head) × A) ⊎ (B ⊎ ((b ≡ Numbers) × (top ≤ suc (suc x.queue.next.0)))) →
+          ((b ≡ Shown) × IsPage (head_at f.number (segs_of x.queue.segments.items)) × A) ⊎ (B ⊎ ((b ≡ Numbers) × ((top ≤ suc (suc x.queue.next.0)) ⊎ (LevelsFit (segs_of x.queue.segments.items) → ⊥))))
+      why (inl a) = inl (a.0, subst IsPage head a.1, a.2)
       why (inr (inl h)) = inr (inl h)
       why (inr (inr n)) = inr (inr (n.0, inl n.1))

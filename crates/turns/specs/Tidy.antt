@@ -23,7 +23,7 @@ use Rattle.turns.specs.declared.plates.Beyond.TheVariants.{Shown, Numbers}
 use Rattle.turns.specs.declared.plates.Written.{Written}
 use Rattle.turns.specs.declared.rules.Rules.{Rules}
 use Rattle.turns.specs.Model.{HasRoom, NoOut, pages_written}
-use Rattle.turns.specs.Turn.{on_shown, RowsFit, segments_shown}
+use Rattle.turns.specs.Turn.{on_shown, IsPage, RowsFit, segments_shown}
 
 -- the step is due on the ledger's queue, and carries what is to be known for it
 abbrev pub IsDue : Sizes → (late : ℕ) → Ledger → Step → Type 0
@@ -63,10 +63,20 @@ more_segments due.Emit shown = 0
 more_segments due.Unpack shown = length (segments_shown shown)
 more_segments due.Open shown = 0
 
+-- a step that takes the rows of the page that it shows
+abbrev pub TakesRows : due.Step → (needs : book.Link) → Type 0
+TakesRows (due.Spill i) l = IsPage l
+TakesRows (due.Pack v) l = ⊥
+TakesRows due.Lower l = ⊥
+TakesRows due.Sift l = Unit {0}
+TakesRows due.Emit l = ⊥
+TakesRows due.Unpack l = ⊥
+TakesRows due.Open l = ⊥
+
 -- why a step is not done
 abbrev pub Stopped : Rules → Step → Maybe book.Page → Code → Beyond → Type 0
 Stopped r s shown x b =
-    ((b ≡ Shown) × (RowsFit r.sizes.rows shown → ⊥)) ⊎ HasRoom (more_segments (step_of s) shown) x.queue.segments (Err b) ⊎ ((b ≡ Numbers) × ((top ≤ suc (suc x.queue.next.0)) ⊎ (LevelsFit (segs_of x.queue.segments.items) → ⊥)))
+    ((b ≡ Shown) × TakesRows (step_of s) (shows (step_of s) (ledger_of x).queue) × (RowsFit r.sizes.rows shown → ⊥)) ⊎ HasRoom (more_segments (step_of s) shown) x.queue.segments (Err b) ⊎ ((b ≡ Numbers) × ((top ≤ suc (suc x.queue.next.0)) ⊎ (LevelsFit (segs_of x.queue.segments.items) → ⊥)))
 
 -- what the step came to; or why it is not done, and the ledger is as it was
 abbrev pub Tidied : Rules → Step → Maybe book.Page → (old new : Code) → Plates → Result Written Beyond → Type 0

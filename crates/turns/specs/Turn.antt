@@ -53,6 +53,10 @@ abbrev pub SortedPage : (size : ℕ) → book.Page → Result Page Beyond → Ty
 SortedPage z g (Ok s) = (g ≡ book.RowPage (page_link s.below) s.rows) × (length s.rows ≤ z)
 SortedPage z g (Err b) = (b ≡ Shown) × (RowsFit z (just g) → ⊥)
 
+abbrev pub IsPage : book.Link → Type 0
+IsPage book.nil = ⊥
+IsPage (book.page n) = Unit {0}
+
 -- by the first page of the segment, if it has one
 abbrev pub spilled_by : (ℕ → Sum) → (size i : ℕ) → (head : book.Link) → Maybe book.Page → book.Queue → book.After
 spilled_by how z i book.nil shown q = book.spill how z i book.Blank q
@@ -61,4 +65,4 @@ spilled_by how z i (book.page n) shown q = on_shown (record { queue = q; writes 
 -- rows of the buffer are in the segment's pages; or the page is none that this can be done with, or there is no room for one segment more, or for page numbers, and the queue is as it was
 abbrev pub SpilledBy : (ℕ → Sum) → (size i : ℕ) → (head : book.Link) → Maybe book.Page → (old new : Queue) → (out upper : List Row) → Result Written Beyond → Type 0
 SpilledBy how z i head shown old new out upper (Ok w) = NoOut w × (queue_of new ≡ (spilled_by how z i head shown (queue_of old)).queue) × ((index : List book.Seg) → pages_written w out upper index ≡ (spilled_by how z i head shown (queue_of old)).writes)
-SpilledBy how z i head shown old new out upper (Err b) = (((b ≡ Shown) × (RowsFit z shown → ⊥)) ⊎ HasRoom 1 old.segments (Err b) ⊎ ((b ≡ Numbers) × (top ≤ suc (suc old.next.0)))) × (new ≡ old)
+SpilledBy how z i head shown old new out upper (Err b) = (((b ≡ Shown) × IsPage head × (RowsFit z shown → ⊥)) ⊎ HasRoom 1 old.segments (Err b) ⊎ ((b ≡ Numbers) × (top ≤ suc (suc old.next.0)))) × (new ≡ old)

@@ -1,7 +1,7 @@
 // Where a step writes its pages, which of them it wrote, and why it is not done.
 
-use plans::numbers::OutPage;
 use plans::entries::EventWords;
+use plans::numbers::OutPage;
 use segs::segment::{PageNumber, Segments};
 use spills::pages::{Pages, Spilt};
 use tables::Table;
