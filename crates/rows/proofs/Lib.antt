@@ -5,3 +5,4 @@ pub mod Parts
 pub mod Shares
 pub mod Written
 mod Adjacent
+pub mod Every

@@ -50,6 +50,13 @@ impl<'a> Rows<'a> {
         }
     }
 
+    // How many rows there is room for.
+    pub fn room(&self) -> usize
+        ensures { result ≡ self.now.room }
+    {
+        self.table.room()
+    }
+
     pub fn as_slice(&self) -> &[RowWords]
         ensures rows { rows_of result.now ≡ self.now.items }
         ensures sorted { Sorted (rows_of result.now) }
