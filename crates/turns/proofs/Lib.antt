@@ -5,3 +5,4 @@ pub mod Shown
 mod Due
 mod Tidied
 mod Wanted
+mod Going

@@ -3,3 +3,4 @@ pub mod Task
 pub mod Turn
 pub mod Tidy
 pub mod Done
+pub mod Going
