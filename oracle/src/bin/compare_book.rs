@@ -8,6 +8,8 @@ use oracle::meaning::{outcome, Entry, Event};
 use oracle::random::Random;
 use oracle::text::{read, Plan};
 use std::collections::BTreeMap;
+use std::io::Write;
+use std::process::{Command, Stdio};
 
 const TINY: Sizes = Sizes { front: 6, buffer: 8, rows: 4, segments: 3, emits: 2, outs: 3, log: 12 };
 
@@ -32,6 +34,16 @@ struct World<'a> {
     put: Vec<Vec<Entry>>,
     /// how often each kind of step was done
     done: BTreeMap<&'static str, usize>,
+    /// the same as commands of the program `boxes`, and what it must print
+    script: String,
+    prints: String,
+}
+
+/// A box that is filled, as `boxes` prints it: its number, how many words, and what they come to.
+fn filled(number: u64, bytes: &[u8]) -> String {
+    let words = bytes.chunks_exact(8).map(|w| u64::from_be_bytes(w.try_into().expect("they are eight")));
+    let sum = words.clone().fold(14_695_981_039_346_656_037u64, |sum, w| (sum ^ w).wrapping_mul(1_099_511_628_211));
+    format!("box {number} {} {sum}\n", words.len())
 }
 
 fn kind(step: Step) -> &'static str {
@@ -57,6 +69,8 @@ impl World<'_> {
             pages: BTreeMap::new(),
             put: vec![Vec::new(); logs],
             done: BTreeMap::new(),
+            script: String::new(),
+            prints: String::new(),
         }
     }
 
@@ -66,6 +80,7 @@ impl World<'_> {
         let batch: Vec<Entry> = (0..1 + r.below(8)).map(|_| entry(r, time)).collect();
         if r.below(2) == 0 {
             self.old[log] = self.logs[log].clone();
+            self.script += &format!("keep {log}\n");
         }
         self.put_in(log, r.below(3) as u64, r.below(64), (r.next(), r.next()), batch);
     }
@@ -78,10 +93,19 @@ impl World<'_> {
     fn put_in(&mut self, log: usize, behind: u64, worker: usize, mine: (u64, u64), batch: Vec<Entry>) {
         loop {
             let floor = self.ledger.logs[log].taken.saturating_sub(behind);
+            for entry in &batch {
+                self.script += &match entry {
+                    Entry::Event(Event { time, key, value }) => format!("event {time} {key} {value}\n"),
+                    Entry::Still(time) => format!("still {time}\n"),
+                };
+            }
+            self.script += &format!("put {log} {worker} {} {} {floor}\n", mine.0, mine.1);
             if let Some(new) = self.rules.add(&self.logs[log], floor, worker, mine, &batch) {
+                self.prints += &filled(log_box(log as u64), &log_bytes(&new));
                 self.logs[log] = new;
                 break;
             }
+            self.prints += "full\n";
             self.rest();
             self.take(log, false);
         }
@@ -92,13 +116,19 @@ impl World<'_> {
 
     /// The step that is due, its pages filled; each page number is called for with one content only.
     fn step(&mut self) -> bool {
-        let Some(step) = self.rules.due(&self.ledger) else { return false };
+        self.script += "step\n";
+        let Some(step) = self.rules.due(&self.ledger) else {
+            self.prints += "rest\n";
+            return false;
+        };
         let shown = self.rules.shows(&self.ledger, step).map(|b| page_from(&self.pages[&b]).expect("a page that is called for is filled"));
         let done = self.rules.done(&self.ledger, step, shown.as_ref());
         for (number, bytes) in done.writes {
+            self.prints += &filled(number, &bytes);
             assert!(self.pages.insert(number, bytes).is_none(), "a page is filled once");
         }
         self.ledger = done.ledger;
+        self.prints += &filled(LEDGER, &ledger_bytes(&self.ledger));
         *self.done.entry(kind(step)).or_default() += 1;
         assert_eq!(ledger_from(&ledger_bytes(&self.ledger)).as_ref(), Some(&self.ledger), "a ledger is read back");
         true
@@ -111,13 +141,18 @@ impl World<'_> {
     /// A log taken, with nothing due, from its box as it is or as it was; false where nothing was new.
     fn take(&mut self, log: usize, old: bool) -> bool {
         let shown = if old { &self.old[log] } else { &self.logs[log] };
-        match self.rules.take(&self.ledger, log, shown) {
-            Some(new) if new != self.ledger => {
-                self.ledger = new;
-                true
-            }
-            _ => false,
+        if shown.entries == 0 {
+            return false;
         }
+        self.script += &format!("{} {log}\n", if old { "takeold" } else { "take" });
+        let Some(new) = self.rules.take(&self.ledger, log, shown) else {
+            self.prints += "refused\n";
+            return false;
+        };
+        self.prints += &filled(LEDGER, &ledger_bytes(&new));
+        let changed = new != self.ledger;
+        self.ledger = new;
+        changed
     }
 
     /// What came out, by the boxes.
@@ -142,9 +177,11 @@ fn entry(r: &mut Random, time: u64) -> Entry {
     Entry::Event(Event { time, key, value: r.below(9) as u64 })
 }
 
-fn play(seed: u64, plan: &Plan, sizes: Sizes, batches: usize) -> BTreeMap<&'static str, usize> {
+fn play(seed: u64, text: &str, sizes: Sizes, batches: usize) -> Played {
+    let plan = read(text.as_bytes()).expect("it is a plan");
     let mut r = Random::new(seed);
-    let mut world = World::new(plan, sizes, 1 + r.below(4));
+    let mut world = World::new(&plan, sizes, 1 + r.below(4));
+    world.script = format!("plan {text}\nlogs {}\n", world.logs.len());
     let mut time = 0;
     for turn in 0..batches {
         time += r.below(30) as u64;
@@ -170,27 +207,59 @@ fn play(seed: u64, plan: &Plan, sizes: Sizes, batches: usize) -> BTreeMap<&'stat
             break;
         }
     }
-    assert_eq!(world.came_out(), outcome(plan, &world.put), "all comes out");
-    world.done
+    assert_eq!(world.came_out(), outcome(&plan, &world.put), "all comes out");
+    Played { done: world.done, script: world.script, prints: world.prints }
 }
 
-fn main() {
-    let plans: Vec<Plan> = PLANS.iter().map(|text| read(text.as_bytes()).expect("it is a plan")).collect();
+/// What a run came to.
+struct Played {
+    done: BTreeMap<&'static str, usize>,
+    script: String,
+    prints: String,
+}
+
+/// The first line in which the program `boxes` prints something else of a script.
+fn differs(program: &str, played: &Played) -> std::io::Result<Option<String>> {
+    let mut child = Command::new(program).stdin(Stdio::piped()).stdout(Stdio::piped()).spawn()?;
+    let mut input = child.stdin.take().expect("a pipe");
+    let script = played.script.clone();
+    let writer = std::thread::spawn(move || input.write_all(script.as_bytes()));
+    let output = child.wait_with_output()?;
+    writer.join().expect("it writes")?;
+    let printed = String::from_utf8_lossy(&output.stdout).into_owned();
+    let mut lines = (1..).zip(printed.lines().zip(played.prints.lines()));
+    let first = lines.find(|(_, (printed, expected))| printed != expected);
+    if let Some((at, (printed, expected))) = first {
+        return Ok(Some(format!("line {at}: printed {printed}, expected {expected}")));
+    }
+    let (printed, expected) = (printed.lines().count(), played.prints.lines().count());
+    Ok((printed != expected).then(|| format!("{printed} lines printed, {expected} expected")))
+}
+
+fn main() -> std::io::Result<()> {
+    let program = std::env::args().nth(1).expect("the program `boxes`");
     let (mut passed, mut failed) = (0, 0);
     for (name, sizes, batches, seeds) in [("tiny", TINY, 60, 1..=600u64), ("real", SIZES, 9000, 601..=607)] {
         let mut steps: BTreeMap<&str, usize> = BTreeMap::new();
         for seed in seeds {
-            let plan = &plans[seed as usize % plans.len()];
-            match std::panic::catch_unwind(|| play(seed, plan, sizes, batches)) {
-                Ok(done) => {
-                    passed += 1;
-                    done.into_iter().for_each(|(kind, count)| *steps.entry(kind).or_default() += count);
-                }
-                Err(_) => {
-                    failed += 1;
-                    println!("seed {seed} fails");
+            let text = PLANS[seed as usize % PLANS.len()];
+            let Ok(played) = std::panic::catch_unwind(|| play(seed, text, sizes, batches)) else {
+                failed += 1;
+                println!("seed {seed} fails");
+                continue;
+            };
+            passed += 1;
+            // the program has the real sizes
+            if name == "real" {
+                match differs(&program, &played)? {
+                    None => passed += played.prints.lines().count(),
+                    Some(what) => {
+                        failed += 1;
+                        println!("seed {seed}: {what}");
+                    }
                 }
             }
+            played.done.into_iter().for_each(|(kind, count)| *steps.entry(kind).or_default() += count);
         }
         println!("steps with {name} sizes: {steps:?}");
         // a kind of step that never came up was not tried

@@ -1,0 +1,4 @@
+pub mod Rooms
+pub mod Steps
+pub mod Store
+pub mod Puts
