@@ -19,7 +19,7 @@ use plans::numbers::{EventCount, Key, LogNumber, OutPage, Time, Value};
 use plans::stages::Plan;
 use segs::segment::PageNumber;
 use sizes::Sizes;
-use spills::pages::Spilt;
+use spills::pages::{Pages, Spilt};
 use std::collections::BTreeMap;
 use std::io;
 use std::io::Read;
@@ -289,47 +289,57 @@ impl Play<'_> {
         self.fill_ledger(&ledger)
     }
 
+    // The pages that a step wrote, the first first.
     fn fill_pages(&mut self, written: Written, plates: &Plates<'_>) -> Result<(), Stop> {
         let mut words = [0; MOST_WORDS];
         let mut to = Table::new(&mut words, 0);
-        let (number, done) = match written {
-            Written::Nothing => return Ok(()),
-            Written::Out(page) => (
-                box_of_out(page),
-                write_events(plates.events.as_slice(), &mut to),
-            ),
-            Written::Index(page) => (
-                box_of_page(page),
-                write_segments(plates.index.as_slice(), &mut to),
-            ),
-            Written::Rows { first, spilt } => {
-                let below = match spilt {
-                    Spilt::One { below } => below,
-                    Spilt::Two => None,
-                };
-                (
-                    box_of_page(first),
-                    write_rows(below, plates.rows.out.as_slice(), &mut to),
-                )
+        match written {
+            Written::Nothing => Ok(()),
+            Written::Out(page) => {
+                let done = write_events(plates.events.as_slice(), &mut to);
+                self.fill_written(box_of_out(page), done, &to)
             }
+            Written::Index(page) => {
+                let done = write_segments(plates.index.as_slice(), &mut to);
+                self.fill_written(box_of_page(page), done, &to)
+            }
+            Written::Rows { first, spilt } => self.fill_rows(first, spilt, &plates.rows, &mut to),
+        }
+    }
+
+    // One row page, or two that follow each other.
+    fn fill_rows(
+        &mut self,
+        first: PageNumber,
+        spilt: Spilt,
+        pages: &Pages<'_>,
+        to: &mut Table<'_, u64>,
+    ) -> Result<(), Stop> {
+        let below = match spilt {
+            Spilt::One { below } => below,
+            Spilt::Two => None,
         };
-        let (Some(number), Some(())) = (number, done) else {
-            return self.say("refused");
-        };
-        self.fill(number, &to)?;
-        if let Written::Rows {
-            first,
-            spilt: Spilt::Two,
-        } = written
-        {
-            let done = write_rows(None, plates.rows.upper.as_slice(), &mut to);
-            let (Some(number), Some(())) = (box_of_page(PageNumber(first.0.wrapping_add(1))), done)
-            else {
-                return self.say("refused");
-            };
-            self.fill(number, &to)?;
+        let done = write_rows(below, pages.out.as_slice(), to);
+        self.fill_written(box_of_page(first), done, to)?;
+        if spilt == Spilt::Two {
+            let second = PageNumber(first.0.saturating_add(1));
+            let done = write_rows(None, pages.upper.as_slice(), to);
+            self.fill_written(box_of_page(second), done, to)?;
         }
         Ok(())
+    }
+
+    // A box filled with what was written down, if it was and boxes have such numbers.
+    fn fill_written(
+        &mut self,
+        number: Option<u64>,
+        done: Option<()>,
+        to: &Table<'_, u64>,
+    ) -> Result<(), Stop> {
+        match (number, done) {
+            (Some(number), Some(())) => self.fill(number, to),
+            _ => self.say("refused"),
+        }
     }
 }
 

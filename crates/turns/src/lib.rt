@@ -3,9 +3,9 @@
 // its numbers or segments would be beyond what is lent. Neither comes up in books that grew by steps.
 #![tactic(auto)]
 
+mod moving;
 mod pages;
 pub mod plates;
-mod rows;
 pub mod rules;
 mod segments;
 pub mod task;

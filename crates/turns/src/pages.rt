@@ -9,8 +9,8 @@ ghost use Rattle.spills.specs.Model.{SamePages};
 ghost use Rattle.contents.specs.Model.{page_of};
 ghost use Rattle.turns.specs.Turn.{Sifted, SortedPage, SpilledBy, UnpackedBy, as_shown};
 
+use crate::moving::spill_into;
 use crate::plates::{Beyond, Written};
-use crate::rows::spill_into;
 use crate::segments::unpack_page;
 use contents::page::PageView;
 use dues::Fullest;

@@ -8,9 +8,9 @@ ghost use Rattle.ledgers.specs.Model.{ledger_of, SameRooms};
 ghost use Rattle.turns.specs.Turn.{as_shown};
 ghost use Rattle.turns.specs.Tidy.{IsDue, MarkFits, Roomy, Tidied, SamePlates};
 
+use crate::moving::lower_front;
 use crate::pages::{sift_page, spill_shown, unpack_shown};
 use crate::plates::{Beyond, Plates, Written};
-use crate::rows::lower_front;
 use crate::rules::Rules;
 use crate::segments::pack_level;
 use contents::page::PageView;
