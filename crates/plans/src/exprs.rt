@@ -40,8 +40,15 @@ impl Expr {
             Expr::Plus(a, b) => a.eval(event).wrapping_add(b.eval(event)),
             Expr::Minus(a, b) => a.eval(event).wrapping_sub(b.eval(event)),
             Expr::Times(a, b) => a.eval(event).wrapping_mul(b.eval(event)),
-            Expr::Quotient(a, b) => a.eval(event).checked_div(b.eval(event)).unwrap_or(0),
-            Expr::Rest(a, b) => a.eval(event).checked_rem(b.eval(event)).unwrap_or(0),
+            // by 0 the left side is not worked out
+            Expr::Quotient(a, b) => {
+                let by = b.eval(event);
+                if by == 0 { 0 } else { a.eval(event) / by }
+            }
+            Expr::Rest(a, b) => {
+                let by = b.eval(event);
+                if by == 0 { 0 } else { a.eval(event) % by }
+            }
             Expr::Less(a, b) => u64::from(a.eval(event) < b.eval(event)),
             Expr::Same(a, b) => u64::from(a.eval(event) == b.eval(event)),
             Expr::Not(a) => u64::from(a.eval(event) == 0),

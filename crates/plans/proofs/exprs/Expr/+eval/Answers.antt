@@ -1,6 +1,6 @@
 use Rattle.std.proofs.Common.{ap, ◌∙◌, rules}
 use Rattle.plans.specs.Model.{expr_of}
-use Rattle.plans.proofs.Steps.{at_num, at_time, at_key, at_value, at_plus, at_minus, at_times, at_quotient, at_rest, at_less, at_same, at_not}
+use Rattle.plans.proofs.Steps.{at_num, at_time, at_key, at_value, at_plus, at_minus, at_times, at_quotient_0, at_quotient, at_rest_0, at_rest, at_less, at_same, at_not}
 use Rattle.plans.proofs.exprs.Expr.+eval.Goals as goal
 
 pub returns-in-Num : goal.returns-in-Num
@@ -26,13 +26,19 @@ pub returns-in-Times : goal.returns-in-Times
 returns-in-Times t c =
     at_times _ (rw c.deref-in-Times.ensures at c.eval-in-Times.ensures) (rw c.deref-in-Times-2.ensures at c.eval-in-Times-2.ensures) (ap expr_of c.in-Times.is)
 
-pub returns-in-Quotient : goal.returns-in-Quotient
-returns-in-Quotient t c =
-    c.unwrap_or.ensures ∙ at_quotient _ (rw c.deref-in-Quotient.ensures at c.eval-in-Quotient.ensures) (rw c.deref-in-Quotient-2.ensures at c.eval-in-Quotient-2.ensures) (ap expr_of c.in-Quotient.is) _ c.checked_div.ensures
+pub returns-then-by-eq0 : goal.returns-then-by-eq0
+returns-then-by-eq0 t c = at_quotient_0 _ (rw c.deref-in-Quotient.ensures at c.eval-by.ensures) (ap expr_of c.in-Quotient.is) c.if-by-eq0.true
 
-pub returns-in-Rest : goal.returns-in-Rest
-returns-in-Rest t c =
-    c.unwrap_or-in-Rest.ensures ∙ at_rest _ (rw c.deref-in-Rest.ensures at c.eval-in-Rest.ensures) (rw c.deref-in-Rest-2.ensures at c.eval-in-Rest-2.ensures) (ap expr_of c.in-Rest.is) _ c.checked_rem.ensures
+pub returns-else-by-eq0 : goal.returns-else-by-eq0
+returns-else-by-eq0 t c =
+    at_quotient _ (rw c.deref-else-by-eq0.ensures at c.eval-else-by-eq0.ensures) (rw c.deref-in-Quotient.ensures at c.eval-by.ensures) (ap expr_of c.in-Quotient.is) c.if-by-eq0.false
+
+pub returns-then-by-eq0-2 : goal.returns-then-by-eq0-2
+returns-then-by-eq0-2 t c = at_rest_0 _ (rw c.deref-in-Rest.ensures at c.eval-by-in-Rest.ensures) (ap expr_of c.in-Rest.is) c.if-by-eq0-2.true
+
+pub returns-else-by-eq0-2 : goal.returns-else-by-eq0-2
+returns-else-by-eq0-2 t c =
+    at_rest _ (rw c.deref-else-by-eq0-2.ensures at c.eval-else-by-eq0-2.ensures) (rw c.deref-in-Rest.ensures at c.eval-by-in-Rest.ensures) (ap expr_of c.in-Rest.is) c.if-by-eq0-2.false
 
 pub returns-in-Less : goal.returns-in-Less
 returns-in-Less t c =
