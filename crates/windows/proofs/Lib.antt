@@ -1,3 +1,5 @@
 mod Slots
 mod Loops
+mod Merge
 mod Stage
+mod Table

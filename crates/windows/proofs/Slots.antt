@@ -1,6 +1,6 @@
 -- A map's entries as cells: what stands at a slot once a value is added there is what the meaning has.
 -- Assumes nothing.
-use Rattle.std.proofs.Common.{◌≡◌, ℕ, ◌-◌, Bool, true, false, ◌&&◌, eqb, List, [], ◌∷◌, map, Some, None, Option, Ordering, refl, ap, arith}
+use Rattle.std.proofs.Common.{◌≡◌, ℕ, Bool, true, false, ◌&&◌, eqb, List, [], ◌∷◌, map, Some, None, Option, Ordering, refl, ap, arith}
 use Rattle.std.proofs.lemmas.Bool.Decides.{nat_tests}
 use Rattle.std.specs.Ordering.{MatchOrdering}
 use Rattle.std.specs.Ordering as ord
@@ -8,15 +8,13 @@ use Rattle.std.specs.Cmp.{IsTotalOrder}
 use Rattle.std.proofs.lemmas.Cmp.{then_total, on_total, nat_cmp_total}
 use Rattle.std.specs.BTreeMap.{insert_entry, is_at}
 use Rattle.std.specs.List.Sorted.{IsStrictlySortedBy}
+use Rattle.std.specs.List.{AllByRecursion}
 use Rattle.std.specs.Map.{keys_of, lookup}
 use Rattle.std.proofs.lemmas.Map.{lookup-none}
 use Rattle.std.proofs.lemmas.Map.Entries.{none_below_head, lookup_head, lookup_tail}
 use Rattle.streams.specs.Meaning as spec
-use Rattle.streams.specs.Order.{before}
-use Rattle.streams.proofs.Logs.{less_by_is}
-use Rattle.plans.specs.declared.entries.Event.{Event}
+use Rattle.streams.specs.Order.{before, Above, Sorted}
 use Rattle.plans.specs.declared.numbers.Value.{Value}
-use Rattle.plans.specs.Model.{as_event}
 use Rattle.windows.specs.declared.cells.Slot.{Slot}
 use Rattle.windows.specs.Model.{cell_of}
 use Rattle.windows.specs.contracts.cells.SlotOrd.TheImpl as order
@@ -56,11 +54,12 @@ grown_into s d v r (x ∷ xs) st g = go (cmp d x.0) refl (ranks d x.0) (grown_in
         rw (q, h.0, h.1, n, e, k) refl
     go Ordering.Greater q h more = rw (q, h.0, h.1) (ap (λ (cs : List spec.Cell). cell_of x ∷ cs) (more (rw (lookup_tail (is_at (cmp d)) x xs (ap ord.is_eq q)) at g)))
 
--- what comes of a cell, just before its end
-abbrev pub event_at : Slot × Value → Event
-event_at c = record { time = record { 0 = c.0.end.0 - 1 }; key = c.0.key; value = c.1 }
+-- a map's entries are sorted cells
+above_keys : (d : Slot) (es : List (Slot × Value)) → AllByRecursion (λ y. cmp d y ≡ Ordering.Less) (keys_of es) → Above d.end.0 d.key.0 (map cell_of es)
+above_keys d [] h = tt
+above_keys d (x ∷ xs) h = (let q : cmp d x.0 ≡ Ordering.Less = h.0 in grind (arith, nat_tests), above_keys d xs h.1)
 
-pub events_at : (es : List (Slot × Value)) → map as_event (map event_at es) ≡ spec.as_events (map cell_of es)
-unfolding spec.as_events
-events_at [] = refl
-events_at (x ∷ xs) = rw (events_at xs, less_by_is 1 x.0.end.0) refl
+pub sorted_keys : (es : List (Slot × Value)) → IsStrictlySortedBy cmp (keys_of es) → Sorted (map cell_of es)
+unfolding IsStrictlySortedBy
+sorted_keys [] h = tt
+sorted_keys (x ∷ xs) h = (above_keys x.0 xs h.0, sorted_keys xs h.1)

@@ -1,12 +1,13 @@
-use Rattle.std.proofs.Common.{rules, sym, ◌∙◌}
+use Rattle.std.proofs.Common.{map}
 use Rattle.plans.specs.Model.{as_sum}
-use Rattle.windows.proofs.Slots.{grown_into}
+use Rattle.windows.specs.Model.{cell_of}
+use Rattle.windows.proofs.Merge.{run_took, stray_took}
 use Rattle.windows.proofs.cells.add.Goals as goal
 
-pub returns-in-Occupied : goal.returns-in-Occupied
-returns-in-Occupied c =
-    let k = sym (rw c.in-Occupied.is at c.in_ok-cell.ensures.value) ∙ c.get-so_far.ensures in
-    search (rules, grown_into (as_sum c.args.how) c.args.slot c.args.value.0 c.joined.result _ c.in_ok-cell.ensures.ordered (rw k c.joined.ensures))
+pub returns-then-branch : goal.returns-then-branch
+returns-then-branch c =
+    run_took (as_sum c.args.how) _ _ _ _ _ (map cell_of c.args.cells.now.strays.entries) (rw c.if-branch.true at c.in_ok-add.ensures.cells)
 
-pub returns-in-Vacant : goal.returns-in-Vacant
-returns-in-Vacant c = search (rules, grown_into)
+pub returns : goal.returns
+returns c =
+    stray_took (as_sum c.args.how) _ _ _ _ _ _ _ (rw c.if-branch.false at c.in_ok-add.ensures.cells) c.in_ok-add.ensures.sorted c.in_ok-add_stray.ensures
