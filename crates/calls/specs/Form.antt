@@ -1,6 +1,6 @@
 -- The bytes of a call, what each value stands for in the meaning, and what may be read from bytes.
 -- Assumes nothing.
-use Rattle.std.specs.Prelude.{◌≡◌, ℕ, ◌+◌, ◌^◌, ◌<◌, ◌≤◌, true, false, List, ◌∷◌, ◌++◌, length, take, drop, Some, None, Ok, Err, Option, Result, ◌≢◌}
+use Rattle.std.specs.Prelude.{◌≡◌, ℕ, ◌+◌, ◌^◌, ◌<◌, ◌≤◌, true, false, List, [], ◌∷◌, ◌++◌, length, take, drop, Some, None, Ok, Err, Option, Result, ◌≢◌}
 use Rattle.streams.specs.Calls as spec
 use Rattle.octets.specs.Form.{two, eight}
 use Rattle.plans.specs.Model.{entry_of}
@@ -90,6 +90,11 @@ Reads bs (Err Busy) = ⊥
 -- WHAT WAS WRITTEN IS READ AGAIN
 abbrev pub ReadAgain : List ℕ → Result Call Refusal → Type 0
 ReadAgain bs r = (c : Call) → Fit c → spec.core (call_of c) ≡ true → bs ≡ encoded c → r ≡ Ok c
+
+-- what writing the byte of a kind leaves: that byte in front, where a call of that kind has room, or all as it was
+abbrev pub Begins : Kind → (before after : List ℕ) → Option ℕ → Type 0
+Begins k before after None = (length before < size_of k) × (after ≡ before)
+Begins k before after (Some at) = (at ≡ 1) × (size_of k ≤ length before) × (length after ≡ length before) × (take 1 after ≡ byte_of k ∷ []) × (drop 1 after ≡ drop 1 before)
 
 -- the first n bytes of `after` are those of c, and the others are as they were
 pub record Written (c : Call) (n : ℕ) (before after : List ℕ) : Type 0 where

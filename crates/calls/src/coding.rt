@@ -1,10 +1,10 @@
 // Calls to and from bytes. Reading is total: any bytes are a call that is built, or are refused.
-ghost use Rattle.std.specs.Prelude.{◌≡◌, ◌<◌, ◌++◌, length, MatchOption};
+ghost use Rattle.std.specs.Prelude.{◌≡◌, ◌+◌, ◌^◌, ◌<◌, ◌≤◌, ◌++◌, length, take, drop, MatchOption};
 ghost use Rattle.calls.specs.declared.kinds.Kind.TheVariants.{Put, Still, Out};
-ghost use Rattle.calls.specs.Form.{event_bytes, numbers_of, Fit, ReadsNumbers, Reads, ReadAgain, Encodes};
+ghost use Rattle.calls.specs.Form.{event_bytes, ReadsNumbers, Reads, ReadAgain, Begins, Encodes};
 
 use crate::kinds::{Call, Kind, Refusal};
-use octets::{number_from, write_number};
+use octets::{number_from, write_bytes, write_number};
 use plans::entries::{Entry, Event};
 use plans::numbers::{Key, LogNumber, Place, Time, Value};
 
@@ -12,9 +12,11 @@ use plans::numbers::{Key, LogNumber, Place, Time, Value};
 pub fn event_from(bytes: &[u8]) -> Option<(Event, &[u8])>
     ensures { MatchOption result (length bytes.now < 24) (λ p. bytes.now ≡ event_bytes p.0 ++ p.1.now) }
 {
-    let (time, rest) = number_from(bytes)?;
-    let (key, rest) = number_from(rest)?;
-    let (value, rest) = number_from(rest)?;
+    // all three at once: one length is tested, and not three
+    let (numbers, rest) = bytes.split_first_chunk::<24>()?;
+    let (time, numbers) = number_from::<u64, 8>(numbers)?;
+    let (key, numbers) = number_from::<u64, 8>(numbers)?;
+    let (value, _) = number_from::<u64, 8>(numbers)?;
     let event = Event {
         time: Time(time),
         key: Key(key),
@@ -72,49 +74,61 @@ pub fn decode(bytes: &[u8]) -> Result<Call, Refusal>
     call.ok_or(Refusal::Invalid)
 }
 
-// Writes what stands behind the kind of a call.
-fn write_numbers(call: Call, out: &mut [u8])
-    requires { length out.old ≡ length (numbers_of call) }
-    ensures wrote { out.new ≡ numbers_of call }
-    ensures fit { Fit call }
+// Writes the byte of a kind at the front of `out`, and says where it ends. Where a call of that kind has no room,
+// nothing is written.
+fn write_kind(kind: Kind, out: &mut [u8]) -> Option<usize>
+    ensures { Begins kind out.old out.new result }
+{
+    if out.len() < kind.size() {
+        return None;
+    }
+    out[0] = u8::from(kind);
+    Some(1)
+}
+
+// Writes an event over the bytes of `out` from `at` on, where it has room, and says where it ends.
+fn write_event(out: &mut [u8], at: usize, event: Event) -> usize
+    requires { at + 24 ≤ length out.old }
+    ensures ends { result ≡ at + 24 }
+    ensures wrote { take result out.new ≡ take at out.old ++ event_bytes event }
+    ensures kept { drop result out.new ≡ drop result out.old }
+    ensures fit { (event.time.0 < 2 ^ 64) × (event.key.0 < 2 ^ 64) × (event.value.0 < 2 ^ 64) }
+{
+    let at = write_number(out, at, event.time.0);
+    let at = write_number(out, at, event.key.0);
+    write_number(out, at, event.value.0)
+}
+
+// Writes the call's bytes at the front of `out`, and says how many. Where they have no room, nothing is written.
+// Room is tested in each arm, for then it is tested against one number.
+pub fn encode(call: Call, out: &mut [u8]) -> Option<usize>
+    ensures { Encodes call out.old out.new result }
 {
     match call {
         Call::Put {
             log,
             entry: Entry::Happened(event),
         } => {
-            out[0] = log.0;
-            let at = write_number(out, 1, event.time.0);
-            let at = write_number(out, at, event.key.0);
-            write_number(out, at, event.value.0);
+            let at = write_kind(Kind::Put, out)?;
+            let at = write_bytes(out, at, &[log.0]);
+            Some(write_event(out, at, event))
         }
         Call::Put {
             log,
             entry: Entry::Still(time),
         } => {
-            out[0] = log.0;
-            write_number(out, 1, time.0);
+            let at = write_kind(Kind::Still, out)?;
+            let at = write_bytes(out, at, &[log.0]);
+            Some(write_number(out, at, time.0))
         }
         Call::Out { from, most } => {
-            let at = write_number(out, 0, from.0);
-            write_number(out, at, most);
+            let at = write_kind(Kind::Out, out)?;
+            let at = write_number(out, at, from.0);
+            Some(write_number(out, at, most))
         }
         Call::Drop { before } => {
-            write_number(out, 0, before.0);
+            let at = write_kind(Kind::Drop, out)?;
+            Some(write_number(out, at, before.0))
         }
     }
-}
-
-// Writes the call's bytes at the front of `out`, and says how many. Where they have no room, nothing is written.
-pub fn encode(call: Call, out: &mut [u8]) -> Option<usize>
-    ensures { Encodes call out.old out.new result }
-{
-    let kind = call.kind();
-    let size = kind.size();
-    if out.len() < size {
-        return None;
-    }
-    out[0] = u8::from(kind);
-    write_numbers(call, &mut out[1..size]);
-    Some(size)
 }

@@ -131,7 +131,7 @@ module _ (t : Traffic) (a : List ℕ) where
       go (whole h2 h3 h4 h5 h6) = so (at_whole t a h2 h3 h4 h5 h6) (simp length-drop (omega arith))
 
 -- what is seen where the numbers are known, as they are read one after the other
-number_of : (n : ℕ) (bs rest : List ℕ) → n < 4294967296 → bs ≡ four n ++ rest → four_of bs ≡ n
+pub number_of : (n : ℕ) (bs rest : List ℕ) → n < 4294967296 → bs ≡ four n ++ rest → four_of bs ≡ n
 number_of n bs rest h e = ap four_of e ∙ sym (four_value n h)
 
 module _ (t : Traffic) (n : ℕ) (bs rest : List ℕ) (fits : n < 4294967296) (e : bs ≡ four n ++ rest) where

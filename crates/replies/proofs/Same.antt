@@ -33,7 +33,7 @@ reply_back Full f = refl
 one_reply : (a b : Reply) → Fit a → Fit b → form a ≡ form b → a ≡ b
 one_reply a b f g e = sym (reply_back a f) ∙ ap reply_at e ∙ reply_back b g
 
-told : (bs : List ℕ) (x : Reply) → Fit x → bs ≡ form x → (bs ≡ form x) × ((a : Reply) → Fit a → bs ≡ form a → x ≡ a)
+pub told : (bs : List ℕ) (x : Reply) → Fit x → bs ≡ form x → (bs ≡ form x) × ((a : Reply) → Fit a → bs ≡ form a → x ≡ a)
 told bs x f e = (e, λ a g h. one_reply x a f g (sym e ∙ h))
 
 -- what an answer with the events in these bytes is written as
@@ -43,7 +43,7 @@ out_form B m f is =
     let bytes : listing (events_in B) ≡ take (24 * m) B = sym (listing_of (length B / 24) B f (omega arith)) ∙ ap (λ k. take (24 * k) B) is in
     (λ i. 2 ∷ two (many i) ++ bytes i)
 
-out_told : (b B : List ℕ) (m : ℕ) → ((i : ℕ) → get_or b i 0 < 256) → m < 65536 → b ≡ two m ++ B → length B ≡ 24 * m → (2 ∷ b ≡ form (Outs (events_in B))) × ((a : Reply) → Fit a → 2 ∷ b ≡ form a → Outs (events_in B) ≡ a)
+pub out_told : (b B : List ℕ) (m : ℕ) → ((i : ℕ) → get_or b i 0 < 256) → m < 65536 → b ≡ two m ++ B → length B ≡ 24 * m → (2 ∷ b ≡ form (Outs (events_in B))) × ((a : Reply) → Fit a → 2 ∷ b ≡ form a → Outs (events_in B) ≡ a)
 out_told b B m f lt e h =
     let is : length B / 24 ≡ m = omega arith in
     let g : (i : ℕ) → get_or B i 0 < 256 = λ i. subst (λ (l : List ℕ). get_or l i 0 < 256) (ap (drop 2) e) (later_byte b f 2 i) in
@@ -52,7 +52,7 @@ out_told b B m f lt e h =
     told (2 ∷ b) (Outs (events_in B)) (few, each_fit (length B / 24) B g) (ap (λ l. 2 ∷ l) e ∙ whole ∙ sym (out_form B m g is))
 
 -- bytes that begin as an answer with events, and are none
-no_out : (b B : List ℕ) (m : ℕ) → m < 65536 → b ≡ two m ++ B → (length B ≡ 24 * m → ⊥) → Reads (2 ∷ b) None
+pub no_out : (b B : List ℕ) (m : ℕ) → m < 65536 → b ≡ two m ++ B → (length B ≡ 24 * m → ⊥) → Reads (2 ∷ b) None
 no_out b B m lt e h (No n) f is = absurd (omega (arith, kinds is))
 no_out b B m lt e h Yes f is = absurd (omega (arith, kinds is))
 no_out b B m lt e h (Outs es) f is =

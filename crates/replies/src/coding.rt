@@ -12,9 +12,11 @@ use octets::{number_from, write_bytes, write_number};
 fn refused_from(bytes: &[u8]) -> Option<Reply<'_>>
     ensures { Reads (0 ∷ bytes.now) result }
 {
-    let (number, rest) = bytes.split_first()?;
+    let [number] = bytes else {
+        return None;
+    };
     let refusal = Refusal::try_from(*number).ok()?;
-    rest.is_empty().then_some(Reply::Refused { refusal })
+    Some(Reply::Refused { refusal })
 }
 
 fn out_from(bytes: &[u8]) -> Option<Reply<'_>>
