@@ -26,7 +26,7 @@ pack_is q i (suc k) s rest h e =
     packed ts = record { queue = record q { segments = take i q.segments ++ (over s q.next ∷ drop (suc k) ts); next = suc q.next }; writes = record { number = q.next; content = IndexPage (take (suc k) ts) } ∷ [] }
 
 -- one put where some were taken out
-put_where : {X : Type 0} (xs ys : List X) (i : ℕ) (x : X) → i ≤ length xs → take i (take i xs ++ ys) ++ ((x ∷ []) ++ drop i (take i xs ++ ys)) ≡ take i xs ++ (x ∷ ys)
+pub put_where : {X : Type 0} (xs ys : List X) (i : ℕ) (x : X) → i ≤ length xs → take i (take i xs ++ ys) ++ ((x ∷ []) ++ drop i (take i xs ++ ys)) ≡ take i xs ++ (x ∷ ys)
 put_where {X} xs ys i x h =
     let l = length-take-le i xs h in
     ap (λ (z : List X). z ++ (x ∷ drop i (take i xs ++ ys))) (take_at (take i xs) ys i l)

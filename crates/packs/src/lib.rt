@@ -12,6 +12,8 @@ ghost use Rattle.queue.specs.Model.{queue_of, SameRoom};
 ghost use Rattle.segs.specs.Model.{segs_of};
 ghost use Rattle.packs.specs.Model.{crowd_of, LevelsFit, Packs};
 
+pub mod lent;
+
 use queue::Queue;
 use segs::segment::{Level, PageNumber, Segment, SegmentWords, Segments};
 use std::cmp::Ordering;

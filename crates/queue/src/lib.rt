@@ -9,6 +9,8 @@ ghost use Rattle.rows.specs.Model.{key_of, row_of, aggregates_of};
 ghost use Rattle.segs.specs.Model.{segs_of};
 ghost use Rattle.queue.specs.Model.{queue_of, SameRoom};
 
+pub mod lent;
+
 use plans::stages::Stage;
 use rows::row::{Row, RowKey};
 use rows::table::Rows;

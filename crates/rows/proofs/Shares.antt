@@ -157,7 +157,7 @@ pub run_counted : (range : KeyRange) {rs : List Row} {a b : ℕ} → Run (within
 run_counted range {rs} {a} {b} r i ss h = count_run (is_of i ss) rs a b (run_like (of_is range i ss h) r)
 
 -- those picked of a run end at e: all, or as many as may be
-abbrev Last : (a b m e : ℕ) → Type 0
+abbrev pub Last : (a b m e : ℕ) → Type 0
 Last a b m e = ((e ≡ b) × (b - a ≤ m)) ⊎ (e ≡ a + m)
 
 last_rest : (a b m e : ℕ) → Last (suc a) (suc b) m (suc e) → Last a b m e

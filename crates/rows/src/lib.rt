@@ -5,6 +5,7 @@
 
 pub mod events;
 pub mod flow;
+pub mod lent;
 pub mod row;
 pub mod segments;
 pub mod sorted;

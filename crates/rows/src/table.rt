@@ -6,12 +6,13 @@ ghost use Rattle.book.specs.Rows.{Sorted, add as added, onto};
 ghost use Rattle.book.specs.Words.{write_all, write_row};
 ghost use Rattle.rows.specs.Model.{row_of, rows_of, aggregates_of};
 
-use crate::row::{Row, RowWords, aggregate_of};
+use crate::lent;
+use crate::row::{Row, RowWords};
 use crate::sorted::SortedRows;
 use plans::stages::Stage;
 use std::marker::Model;
 use std::ops::Range;
-use tables::Table;
+use tables::remove_range;
 
 // The words of rows, which are what the book writes of them to a page.
 pub fn words_of(rows: &[RowWords]) -> &[u64]
@@ -22,19 +23,21 @@ pub fn words_of(rows: &[RowWords]) -> &[u64]
 
 #[derive(Drop)]
 pub struct Rows<'a> {
-    pub(crate) table: Table<'a, RowWords>,
+    slots: &'a mut [RowWords],
+    count: usize,
 }
 
 impl<'a> Model for Rows<'a> {
+    ghost use Rattle.std.specs.Prelude.{◌≤◌, length, take};
     ghost use Rattle.book.specs.Rows.{Row, Sorted};
     ghost use Rattle.tables.specs.Lent.{Lent};
     ghost use Rattle.rows.specs.Model.{rows_of};
 
     ghost Value = { Lent Row };
 
-    ghost view = { λ t. record { items = rows_of t.table.items; room = t.table.room } };
+    ghost view = { λ t. record { items = rows_of (take t.count t.slots.now); room = length t.slots.now } };
 
-    ghost invariant = { λ t. Sorted (rows_of t.table.items) };
+    ghost invariant = { λ t. (t.count ≤ length t.slots.now) × Sorted (rows_of (take t.count t.slots.now)) };
 }
 
 impl<'a> Rows<'a> {
@@ -45,16 +48,14 @@ impl<'a> Rows<'a> {
         ensures items { result.items ≡ rows_of (take count slots.old) }
         ensures room { result.room ≡ length slots.old }
     {
-        Rows {
-            table: Table::new(slots, count),
-        }
+        Rows { slots, count }
     }
 
     // How many rows there is room for.
     pub fn room(&self) -> usize
         ensures { result ≡ self.now.room }
     {
-        self.table.room()
+        self.slots.len()
     }
 
     pub fn as_slice(&self) -> &[RowWords]
@@ -62,13 +63,13 @@ impl<'a> Rows<'a> {
         ensures sorted { Sorted (rows_of result.now) }
         ensures fits { length self.now.items ≤ self.now.room }
     {
-        self.table.as_slice()
+        &self.slots[..self.count]
     }
 
     pub fn as_sorted(&self) -> SortedRows<'_>
         ensures { result ≡ self.now.items }
     {
-        SortedRows::new(self.table.as_slice())
+        SortedRows::new(self.as_slice())
     }
 
     // Other rows in place of all.
@@ -77,7 +78,9 @@ impl<'a> Rows<'a> {
         ensures rows { self.new.items ≡ from.now }
         ensures room { self.new.room ≡ self.old.room }
     {
-        self.table.assign(from.as_slice());
+        let rows = from.as_slice();
+        self.count = rows.len();
+        self.slots[..self.count].copy_from_slice(rows);
     }
 
     // Adds a row, joined with the one of its key if there is one.
@@ -87,16 +90,8 @@ impl<'a> Rows<'a> {
         ensures few { length self.new.items ≤ length self.old.items + 1 }
         ensures room { self.new.room ≡ self.old.room }
     {
-        let rows = self.as_sorted();
-        let place = rows.find(row.at).place;
-        match rows.row_at(place, row.at) {
-            Some(old) => {
-                let how = aggregate_of(stages, old.at.stage);
-                let value = how.together(old.value, row.value);
-                self.table.set(place, Row { value, ..old }.into());
-            }
-            None => self.table.insert_from_slice(place, &[row.into()]),
-        }
+        let slots = &mut *self.slots;
+        self.count = lent::add(slots, self.count, row, stages);
     }
 
     // Adds rows, the last first.
@@ -106,9 +101,8 @@ impl<'a> Rows<'a> {
         ensures few { length self.new.items ≤ length self.old.items + length from.now }
         ensures room { self.new.room ≡ self.old.room }
     {
-        for words in from.iter().rev() {
-            self.add(Row::from(*words), stages);
-        }
+        let slots = &mut *self.slots;
+        self.count = lent::merge(slots, self.count, from, stages);
     }
 
     pub fn remove_range(&mut self, range: Range<usize>)
@@ -117,7 +111,8 @@ impl<'a> Rows<'a> {
         ensures rows { self.new.items ≡ take range.start self.old.items ++ drop range.end self.old.items }
         ensures room { self.new.room ≡ self.old.room }
     {
-        self.table.remove_range(range);
+        let slots = &mut *self.slots;
+        self.count = remove_range(slots, self.count, range);
     }
 
     // Cuts rows in two: those from `at` on are moved to another table.
@@ -128,6 +123,9 @@ impl<'a> Rows<'a> {
         ensures upper { upper.new.items ≡ drop at self.old.items }
         ensures room { (self.new.room ≡ self.old.room) × (upper.new.room ≡ upper.old.room) }
     {
-        self.table.split_off(at, &mut upper.table);
+        let rows = self.as_sorted();
+        let end = rows.as_slice().len();
+        upper.assign(&rows.part(at..end));
+        self.count = at;
     }
 }

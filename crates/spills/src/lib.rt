@@ -2,5 +2,6 @@
 // What is called here requires room of its caller, the code that lends the memory: it has proved it.
 #![tactic(auto)]
 
+pub mod lent;
 pub mod pages;
 pub mod step;

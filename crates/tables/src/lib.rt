@@ -27,6 +27,33 @@ impl<'a, T> Model for Table<'a, T> {
     ghost invariant = { λ t. t.count ≤ length t.slots.now };
 }
 
+// What changes memory lent for one call, whose first items, so many, are meant: it says how many they are then.
+// Of memory in a `Table` a lender learns nothing when the loan ends, and here all.
+
+// Other items before those from i on.
+pub fn insert_from_slice<T: Copy>(slots: &mut [T], count: usize, i: usize, from: &[T]) -> usize
+    requires within { i ≤ count }
+    requires room { count + length from.now ≤ length slots.old }
+    ensures items { take result slots.new ≡ take i (take count slots.old) ++ (from.now ++ drop i (take count slots.old)) }
+    ensures count { result ≡ count + length from.now }
+{
+    slots.copy_within(i..count, i + from.len());
+    slots[i..i + from.len()].copy_from_slice(from);
+    count + from.len()
+}
+
+// `Range` is the library's: its type does not keep its order.
+pub fn remove_range<T: Copy>(slots: &mut [T], count: usize, range: Range<usize>) -> usize
+    requires order { range.start ≤ range.end }
+    requires within { range.end ≤ count }
+    requires whole { count ≤ length slots.old }
+    ensures items { take result slots.new ≡ take range.start (take count slots.old) ++ drop range.end (take count slots.old) }
+    ensures count { result + range.end ≡ count + range.start }
+{
+    slots.copy_within(range.end..count, range.start);
+    count - (range.end - range.start)
+}
+
 impl<'a, T: Copy> Table<'a, T> {
     // Memory whose first items, so many, are the table's.
     pub fn new(slots: &'a mut [T], count: usize) -> Self
@@ -100,20 +127,17 @@ impl<'a, T: Copy> Table<'a, T> {
         ensures room { self.new.room ≡ self.old.room }
     {
         let slots = &mut *self.slots;
-        slots.copy_within(i..self.count, i + from.len());
-        slots[i..i + from.len()].copy_from_slice(from);
-        self.count += from.len();
+        self.count = insert_from_slice(slots, self.count, i, from);
     }
 
-    // `Range` is the library's: its type does not keep its order.
     pub fn remove_range(&mut self, range: Range<usize>)
         requires order { range.start ≤ range.end }
         requires within { range.end ≤ length self.old.items }
         ensures items { self.new.items ≡ take range.start self.old.items ++ drop range.end self.old.items }
         ensures room { self.new.room ≡ self.old.room }
     {
-        self.slots.copy_within(range.end..self.count, range.start);
-        self.count -= range.end - range.start;
+        let slots = &mut *self.slots;
+        self.count = remove_range(slots, self.count, range);
     }
 
     // Cuts the items in two: those from `at` on are moved to another table.

@@ -1,25 +1,23 @@
-use Rattle.std.proofs.Common.{◌≡◌, take, drop, ap, ◌∙◌, subst, sym}
-use Rattle.std.proofs.lemmas.List.{take-map, drop-map}
+use Rattle.std.proofs.Common.{◌≡◌, ◌≤◌, take, ap, ◌∙◌, subst, sym, arith}
+use Rattle.std.proofs.lemmas.List.{take-map, take-take, length-map, length-take-le}
 use Rattle.book.specs.Rows.{Sorted}
 use Rattle.rows.specs.Model.{row_in, rows_of}
 use Rattle.rows.proofs.Parts.{sorted_left}
-use Rattle.rows.proofs.Places.{sorted_right}
 use Rattle.rows.proofs.table.Rows.split_off.Goals as goal
 
-lower : (c : goal.After-split_off) → rows_of c.split_off.new.self.items ≡ take c.args.at (rows_of c.self.inside.table.items)
-lower c = ap rows_of c.split_off.ensures.lower ∙ sym (take-map row_in c.args.at c.self.inside.table.items)
+within : (c : goal.After-self-1) → c.args.at ≤ c.self.inside.count
+within c =
+    let s = c.self.inside in
+    let at = rw (← c.self.view_is, length-map _ row_in) at c.requires.within in
+    omega (arith, at, length-take-le s.count s.slots.now c.self.invariant.0)
 
-upper : (c : goal.After-split_off) → rows_of c.split_off.new.upper.items ≡ drop c.args.at (rows_of c.self.inside.table.items)
-upper c = ap rows_of c.split_off.ensures.upper ∙ sym (drop-map row_in c.args.at c.self.inside.table.items)
+lower : (c : goal.After-self-1) → rows_of (take c.args.at c.self.inside.slots.now) ≡ take c.args.at (rows_of (take c.self.inside.count c.self.inside.slots.now))
+lower c =
+    let s = c.self.inside in
+    sym (take-map row_in c.args.at (take s.count s.slots.now) ∙ ap rows_of (take-take c.args.at s.count s.slots.now (within c)))
 
 pub invariant_of-self : goal.invariant_of-self
-invariant_of-self c = subst Sorted (sym (lower c)) (sorted_left c.args.at _ c.self.invariant)
-
-pub invariant_of-upper : goal.invariant_of-upper
-invariant_of-upper c = subst Sorted (sym (upper c)) (sorted_right c.args.at _ c.self.invariant)
+invariant_of-self c = (omega (arith, within c, c.self.invariant.0), subst Sorted (sym (lower c)) (sorted_left c.args.at _ c.self.invariant.1))
 
 pub returns-clause-lower : goal.returns-clause-lower
 returns-clause-lower c = rw (← c.self.view_is) (lower c)
-
-pub returns-clause-upper : goal.returns-clause-upper
-returns-clause-upper c = rw (← c.self.view_is) (upper c)
