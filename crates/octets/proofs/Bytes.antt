@@ -3,7 +3,7 @@ use Rattle.std.proofs.Common.{◌≡◌, ℕ, ◌+◌, ◌-◌, ◌*◌, ◌/◌
 use Rattle.octets.specs.Form.{two, eight}
 
 -- what two lists are equal by, element by element
-same2 : {a b a' b' : ℕ} {l l' : List ℕ} → a ≡ a' → b ≡ b' → l ≡ l' → a ∷ b ∷ l ≡ a' ∷ b' ∷ l'
+pub same2 : {a b a' b' : ℕ} {l l' : List ℕ} → a ≡ a' → b ≡ b' → l ≡ l' → a ∷ b ∷ l ≡ a' ∷ b' ∷ l'
 same2 p q r = cc
 
 pub eight_of : (xs : List ℕ) (n : ℕ) → ((i : ℕ) → get_or xs i 0 < 256) → 8 ≤ length xs →

@@ -6,7 +6,7 @@ use grammar::refusals::{Refusal, Why};
 use std::alloc::{AllocError, AllocFailed};
 
 // Why a text is refused, and what is left of it from the place on where that was found.
-#[derive(Clone, Copy, Debug)]
+#[derive(Clone, Copy, PartialEq, Eq, Debug)]
 pub struct Unexpected<'a>(pub Why, pub &'a [u8]);
 
 // A text that is refused, or memory that ran out. Who reads a whole text hears of the place as an offset; the readers of
