@@ -1,0 +1,3 @@
+pub mod Chunks
+pub mod Tables
+mod Loans
