@@ -19,6 +19,7 @@ pub struct Packed {
 }
 
 // What `crate::pack` does of a queue's segments; the page with the number `next` is at the front of `page` then.
+// `page` and `all` say how many there are also where memory is full, of which `take` says nothing.
 pub fn pack(
     segments: &mut [SegmentWords],
     count: usize,
@@ -34,6 +35,8 @@ pub fn pack(
     requires next { suc next.0 < top }
     requires levels { LevelsFit (segs_of (take count segments.old)) }
     ensures packs { PacksSlots most level.0 next.0 (take count segments.old) (take result.segments segments.new) (take result.page page.new) }
+    ensures page { result.page ≤ most }
+    ensures all { result.segments + result.page ≡ count + 1 }
 {
     let rows = &segments[..count];
     let counts = count_levels(rows, level);

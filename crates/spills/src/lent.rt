@@ -27,6 +27,7 @@ pub struct Joined {
 }
 
 // What `crate::pages::join_page` does: the rows at the front of `out`, as many as were moved, go into a segment's pages.
+// `out` and `fits` say how many there are also where memory is full, of which `take` says nothing.
 pub fn join_page(
     out: &mut [RowWords],
     moved: usize,
@@ -43,6 +44,7 @@ pub fn join_page(
     requires shown { length shown.now.rows ≤ size }
     ensures is { (n : ℕ) → spilt_of n (seg_of segment) (rows_of (take result.out out.new)) (rows_of (take result.upper upper.new)) result.spilt ≡ spill_by (aggregates_of stages.now) size n (RowPage (page_link shown.now.below) shown.now.rows) (page_link segment.head) (seg_of segment) (rows_of (take moved out.old)) }
     ensures few { Few size (rows_of (take result.out out.new)) (rows_of (take result.upper upper.new)) result.spilt }
+    ensures out { result.out ≤ size }
     ensures fits { result.upper ≤ length upper.new }
 {
     if segment.head.is_none() {
@@ -173,6 +175,7 @@ pub fn spill(
     ensures spills { SpillsSlots (aggregates_of stages.now) size i (RowPage (page_link shown.now.below) shown.now.rows) counts.next.0 (take counts.buffer buffer.old) (take counts.segments segments.old) result.counts.next.0 (take result.counts.buffer buffer.new) (take result.counts.segments segments.new) (rows_of (take result.joined.out out.new)) (rows_of (take result.joined.upper upper.new)) result.joined.spilt }
     ensures sorted { Sorted (rows_of (take result.counts.buffer buffer.new)) }
     ensures few { Few size (rows_of (take result.joined.out out.new)) (rows_of (take result.joined.upper upper.new)) result.joined.spilt }
+    ensures out { result.joined.out ≤ size }
     ensures buffer { result.counts.buffer ≤ counts.buffer }
     ensures segments { result.counts.segments ≤ counts.segments + 1 }
 {

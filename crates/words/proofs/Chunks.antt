@@ -36,36 +36,41 @@ length-words_of : (n : ℕ) (items : List (List ℕ)) → length (words_of n ite
 length-words_of n [] = sym (zero-mul n)
 length-words_of n (x ∷ xs) = let step = suc-mul (length xs) n in omega (arith, length-append (words_in n x) (words_of n xs), length-words_in n x, length-words_of n xs)
 
+-- what is lent of words as items, and the words behind them
+abbrev pub LentAs : ℕ → (words : List ℕ) → (got : List (List ℕ)) → (rest : List ℕ) → Type 0
+LentAs n words got rest = (got ≡ items_of n words) × (rest ≡ drop (length words / n * n) words)
+
 -- words that were lent as items: how many words the items are, and all are as many as they were
 written : {got : List (List ℕ)} (n : ℕ) (words : List ℕ) (items : List (List ℕ)) → got ≡ items_of n words → length items ≡ length got → length (words_of n items) ≡ length words / n * n
 written n words items is same = length-words_of n items ∙ ap (λ (k : ℕ). k * n) (same ∙ ap length is ∙ length-items_of n words)
 
-pub length_kept : {got : List (List ℕ)} {rest : List ℕ} (n : ℕ) (words : List ℕ) (items : List (List ℕ)) → (got ≡ items_of n words) × (rest ≡ drop (length words / n * n) words) → length items ≡ length got
+pub length_kept : {got : List (List ℕ)} {rest : List ℕ} (n : ℕ) (words : List ℕ) (items : List (List ℕ)) → LentAs n words got rest → length items ≡ length got
     → length (words_of n items ++ rest) ≡ length words
 length_kept {got} {rest} n words items lent same =
     let behind : length rest ≡ length words - length words / n * n = ap length lent.1 ∙ length-drop (length words / n * n) words in
     omega (arith, length-append (words_of n items) rest, written n words items lent.0 same, div-mul-le_self (length words) n)
 
 -- as items they are what these ended as, and the words behind them stay
-pub items_kept : {got : List (List ℕ)} {rest : List ℕ} (n : ℕ) (words : List ℕ) (items : List (List ℕ)) → (got ≡ items_of n words) × (rest ≡ drop (length words / n * n) words) → length items ≡ length got
+pub items_kept : {got : List (List ℕ)} {rest : List ℕ} (n : ℕ) (words : List ℕ) (items : List (List ℕ)) → LentAs n words got rest → length items ≡ length got
     → items_of n (words_of n items ++ rest) ≡ whole n items
 items_kept {got} {rest} n words items lent same =
     let many : length items ≡ length words / n = same ∙ ap length lent.0 ∙ length-items_of n words in
     let k : length (words_of n items ++ rest) / n ≡ length items = ap (λ (j : ℕ). j / n) (length_kept n words items lent same) ∙ sym many in
     rw k (read_back n (length items) items rest (omega arith) ∙ ap (whole n) (take_all (length items) items (omega arith)))
 
-pub rest_kept : {got : List (List ℕ)} {rest : List ℕ} (n : ℕ) (words : List ℕ) (items : List (List ℕ)) → (got ≡ items_of n words) × (rest ≡ drop (length words / n * n) words) → length items ≡ length got
+pub rest_kept : {got : List (List ℕ)} {rest : List ℕ} (n : ℕ) (words : List ℕ) (items : List (List ℕ)) → LentAs n words got rest → length items ≡ length got
     → drop (length words / n * n) (words_of n items ++ rest) ≡ drop (length words / n * n) words
 rest_kept {got} {rest} n words items lent same = drop_at (words_of n items) rest (length words / n * n) (written n words items lent.0 same) ∙ lent.1
 
--- words that are read as items are all of these, and so are some of them
+-- items that are read of words have all theirs, and so have some of them
 chunks_whole : (n k : ℕ) (words : List ℕ) → k * n ≤ length words → whole n (first_chunks n k words) ≡ first_chunks n k words
 chunks_whole n zero words le = refl
 chunks_whole n (suc k) words le =
     let step = suc-mul k n in
     ap₂ (λ (c : List ℕ) (cs : List (List ℕ)). c ∷ cs) (words_all n (take n words) (length-take-le n words (omega arith))) (chunks_whole n k (drop n words) (omega (arith, length-drop n words)))
 
+pub items_whole : (n : ℕ) (words : List ℕ) → whole n (items_of n words) ≡ items_of n words
+items_whole n words = chunks_whole n (length words / n) words (div-mul-le_self (length words) n)
+
 pub parts_whole : (n : ℕ) (words : List ℕ) (i j k : ℕ) → whole n (take i (take k (items_of n words)) ++ drop j (take k (items_of n words))) ≡ take i (take k (items_of n words)) ++ drop j (take k (items_of n words))
-parts_whole n words i j k =
-    let all : whole n (items_of n words) ≡ items_of n words = chunks_whole n (length words / n) words (div-mul-le_self (length words) n) in
-    simp (map-append, ← take-map, ← drop-map) (ap (λ (xs : List (List ℕ)). take i (take k xs) ++ drop j (take k xs)) all)
+parts_whole n words i j k = simp (map-append, ← take-map, ← drop-map) (ap (λ (xs : List (List ℕ)). take i (take k xs) ++ drop j (take k xs)) (items_whole n words))

@@ -8,7 +8,7 @@ use Rattle.std.specs.Simd.{first_chunks}
 abbrev pub items_of : ℕ → List ℕ → List (List ℕ)
 items_of n words = first_chunks n (length words / n) words
 
--- the first n words of an item: all that it has, since an item has n. The type of a list does not say so: a word that it has not is 0
+-- the n words of an item. Each item in memory has n, which the type of a list does not say: of a list that has fewer, the words that it lacks count as 0
 abbrev pub words_in : ℕ → List ℕ → List ℕ
 words_in zero item = []
 words_in (suc n) [] = 0 ∷ words_in n []

@@ -28,6 +28,8 @@ pub fn pack(
     requires next { suc next.0 < top }
     requires levels { LevelsFit (segs_in count segments.old) }
     ensures packs { PacksSlots most level.0 next.0 (take count (items_of 6 segments.old)) (take result.segments (items_of 6 segments.new)) (take result.page (items_of 6 page.new)) }
+    ensures page { result.page ≤ most }
+    ensures all { result.segments + result.page ≡ count + 1 }
 {
     let (segments, _) = as_items_mut(segments);
     let (page, _) = as_items_mut(page);

@@ -35,6 +35,7 @@ pub fn join_page(
     requires shown { length shown.now.rows ≤ size }
     ensures is { (n : ℕ) → spilt_of n (seg_of segment) (rows_in result.out out.new) (rows_in result.upper upper.new) result.spilt ≡ spill_by (aggregates_of stages.now) size n (RowPage (page_link shown.now.below) shown.now.rows) (page_link segment.head) (seg_of segment) (rows_in moved out.old) }
     ensures few { Few size (rows_in result.out out.new) (rows_in result.upper upper.new) result.spilt }
+    ensures out { result.out ≤ size }
     ensures fits { 4 * result.upper ≤ length upper.new }
 {
     let (out, _) = as_items_mut(out);
@@ -68,6 +69,7 @@ pub fn spill(
     ensures spills { SpillsSlots (aggregates_of stages.now) size i (RowPage (page_link shown.now.below) shown.now.rows) counts.next.0 (take counts.buffer (items_of 4 buffer.old)) (take counts.segments (items_of 6 segments.old)) result.counts.next.0 (take result.counts.buffer (items_of 4 buffer.new)) (take result.counts.segments (items_of 6 segments.new)) (rows_in result.joined.out out.new) (rows_in result.joined.upper upper.new) result.joined.spilt }
     ensures sorted { Sorted (rows_in result.counts.buffer buffer.new) }
     ensures few { Few size (rows_in result.joined.out out.new) (rows_in result.joined.upper upper.new) result.joined.spilt }
+    ensures out { result.joined.out ≤ size }
     ensures buffer { result.counts.buffer ≤ counts.buffer }
     ensures segments { result.counts.segments ≤ counts.segments + 1 }
 {

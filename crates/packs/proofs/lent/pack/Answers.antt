@@ -15,8 +15,8 @@ overflow_add-whole c =
     let b = behind (take c.args.count c.args.segments.now) _ _ _ (seg_of c.from-first.result) refl (omega (arith, c.count_levels-counts.ensures.at, c.count_levels-counts.ensures.few, c.requires.some)) c.from-first.ensures.is in
     let l = level_fits _ _ _ _ c.requires.levels b in omega (arith, l)
 
-pub returns : goal.returns
-returns c = record { packs = record { queue = queue; writes = writes } }
+pub returns-clause-packs : goal.returns-clause-packs
+returns-clause-packs c = record { queue = queue; writes = writes }
   where
     w : List (List ℕ)
     w = take c.args.count c.args.segments.now

@@ -6,7 +6,7 @@ use Rattle.words.proofs.Tables.{many_lent}
 use Rattle.words.proofs.items.remove_range.Goals as goal
 
 pub remove_range-requires-clause-whole : goal.remove_range-requires-clause-whole
-remove_range-requires-clause-whole g c = omega (arith, c.requires.all, many_lent g.row.N c.args.words.now c.as_items_mut-items.ensures.value.0)
+remove_range-requires-clause-whole g c = omega (arith, c.requires.whole, many_lent g.row.N c.args.words.now c.as_items_mut-items.ensures.value.0)
 
 pub returns-clause-items : goal.returns-clause-items
 returns-clause-items g c =

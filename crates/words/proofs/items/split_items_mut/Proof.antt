@@ -110,15 +110,15 @@ module _ (n : ℕ) {M : Type 1} {𝓤 : Ura M} (𝓛 : Logic 𝓤) (at_mem : Mem
         qed 𝓛 ((‵ (flft κ q) ⊛ ‵ (flft κN qN) ⊛ ‵ ftrue) ∷ ‵ (owns (MutSlice (named 0) κ u64 ∷ usize ∷ usize ∷ []) (self, (m, (e, tt))) vals) ∷ []) ∵ enter ! C Λ (function n) (slice_val (b, o) (length xs) ∷ vint w64 m ∷ vint w64 e ∷ []) _ $
         alloc_all ! (λ l. pass_all ! refl ((tt, (tt, (record { fits = rm.0 }, tt))), ((tt, record { fits = fm }), ((tt, record { fits = fe }), tt))) $
         let En : Env 𝓤 H = env (function n).locals l in
-        -- let n = words.len();
+        -- let len = words.len();
         sets ! (of_opd ! (get_in ! (fld ! refl (stop !)) (sub ! 1 refl (whole !)))) refl (tt, record { fits = fn }) $
-        -- let p = words.as_mut_ptr();
+        -- let start = words.as_mut_ptr();
         sets ! (addr ! (from ! (fld ! refl (hop ! (look_in_at ! 1 (sub ! 0 refl (whole !))) (stop !))))) refl (tt, tt) $
         first ! $ blocks ! $
-        -- from_raw_parts_mut(p as *mut [u64; N], count)
+        -- from_raw_parts_mut(start as *mut [u64; N], count)
         sets ! (of_opd ! (get ! refl)) refl (tt, tt) $
         sets ! (agg ! (and_then ! (get ! refl) (and_then ! (get ! refl) (no_more !)))) refl (tt, (tt, (record { fits = fm }, tt))) $
-        -- from_raw_parts_mut(p.add(mid), n - mid)
+        -- from_raw_parts_mut(start.add(mid), len - mid)
         sets ! (bin ! (get ! refl) (lit ! tt) (record { fits = fo })) refl (tt, record { fits = fo }) $
         sets ! (bin ! (get ! refl) (get ! refl) tt) refl (tt, tt) $
         sets ! (bin ! (get ! refl) (get ! refl) le) refl (tt, record { fits = fr }) $
