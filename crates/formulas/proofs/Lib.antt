@@ -1,2 +1,3 @@
-mod Chains
+pub mod Chains
+pub mod Ends
 mod Signs

@@ -4,7 +4,7 @@
 ghost use Rattle.grammar.specs.Reading.{after, closed, expression as expression_of, chained as chained_of, operand as operand_of, factor as factor_of, bracket as bracket_of, leaf as leaf_of};
 ghost use Rattle.std.specs.Prelude.{◌≡◌, option_map};
 ghost use Rattle.plans.specs.Model.{expr_of};
-ghost use Rattle.tokens.specs.Says.{Reads, Says};
+ghost use Rattle.tokens.specs.Says.{Reads, Says, EndsOrStops};
 ghost use Rattle.formulas.specs.Says.{formula_of, field_of};
 
 use crate::formula::Formula;
@@ -17,9 +17,17 @@ use tokens::faults::{Stop, Unexpected};
 use tokens::{digits, is_digit, skip, split_word, strip_sign};
 
 // The expression here, in which brackets stand at most `deep` deep in each other.
-#[cycle(bracket_chain_expression_factor_operand)]
-#[tactic(auto, using(crate::proofs::Chains::expressions), unfolding(grammar::specs::Reading::after, grammar::specs::Reading::single))]
 pub fn expression(heap: Global, b: &[u8], deep: u8) -> Result<(Formula, &[u8]), Stop>
+    ensures reads { Says formula_of (expression_of deep b.now) result }
+    ensures end { EndsOrStops b.now result }
+{
+    compared(heap, b, deep)
+}
+
+// A sum, or two with a comparison between them.
+#[cycle(bracket_chain_compared_factor_operand)]
+#[tactic(auto, using(crate::proofs::Chains::expressions), unfolding(grammar::specs::Reading::after, grammar::specs::Reading::single))]
+fn compared(heap: Global, b: &[u8], deep: u8) -> Result<(Formula, &[u8]), Stop>
     ensures { Says formula_of (expression_of deep b.now) result }
 {
     let (left, rest) = chain(heap, b, deep, Level::Sum)?;
@@ -37,7 +45,7 @@ pub fn expression(heap: Global, b: &[u8], deep: u8) -> Result<(Formula, &[u8]), 
 }
 
 // Operands with operators of one level between them, from left to right.
-#[cycle(bracket_chain_expression_factor_operand)]
+#[cycle(bracket_chain_compared_factor_operand)]
 #[tactic(auto, using(crate::proofs::Chains::chain_stop))]
 fn chain(heap: Global, b: &[u8], deep: u8, level: Level) -> Result<(Formula, &[u8]), Stop>
     ensures { Says formula_of (chained_of level (bracket_of deep) b.now) result }
@@ -56,7 +64,7 @@ fn chain(heap: Global, b: &[u8], deep: u8, level: Level) -> Result<(Formula, &[u
 
 // The operands of a sum are products, those of a product are factors: each `!` before one is a part of it. A match and no closure:
 // what falls from call to call shows that the readers end.
-#[cycle(bracket_chain_expression_factor_operand)]
+#[cycle(bracket_chain_compared_factor_operand)]
 #[tactic(auto, unfolding(grammar::specs::Reading::operand, grammar::specs::Reading::chained, grammar::specs::Reading::chain))]
 fn operand(heap: Global, b: &[u8], deep: u8, level: Level) -> Result<(Formula, &[u8]), Stop>
     ensures { Says formula_of (operand_of level (bracket_of deep) b.now) result }
@@ -68,7 +76,7 @@ fn operand(heap: Global, b: &[u8], deep: u8, level: Level) -> Result<(Formula, &
 }
 
 // A factor, before which `nots` more `!` may stand.
-#[cycle(bracket_chain_expression_factor_operand)]
+#[cycle(bracket_chain_compared_factor_operand)]
 #[tactic(auto, using(tokens::proofs::Hands::after_stop, crate::proofs::Chains::factors), unfolding(grammar::specs::Reading::after))]
 fn factor(heap: Global, b: &[u8], deep: u8, nots: u8) -> Result<(Formula, &[u8]), Stop>
     ensures { Says formula_of (factor_of (bracket_of deep) nots b.now) result }
@@ -87,12 +95,12 @@ fn factor(heap: Global, b: &[u8], deep: u8, nots: u8) -> Result<(Formula, &[u8])
 }
 
 // What stands inside of a bracket, and the closing one.
-#[cycle(bracket_chain_expression_factor_operand)]
+#[cycle(bracket_chain_compared_factor_operand)]
 #[tactic(auto, using(tokens::proofs::Hands::after_stop), unfolding(grammar::specs::Reading::after, grammar::specs::Reading::closed))]
 fn bracket(heap: Global, b: &[u8], deep: u8) -> Result<(Formula, &[u8]), Stop>
     ensures { Says formula_of (after (expression_of deep b.now) closed) result }
 {
-    let (inner, rest) = expression(heap, b, deep)?;
+    let (inner, rest) = compared(heap, b, deep)?;
     let close = skip(rest);
     match strip_sign(close, b')') {
         Some(behind) => Ok((inner, behind)),

@@ -52,13 +52,11 @@ out_told b B m f lt e h =
     told (2 ∷ b) (Outs (events_in B)) (few, each_fit (length B / 24) B g) (ap (λ l. 2 ∷ l) e ∙ whole ∙ sym (out_form B m g is))
 
 -- bytes that begin as an answer with events, and are none
-pub no_out : (b B : List ℕ) (m : ℕ) → m < 65536 → b ≡ two m ++ B → (length B ≡ 24 * m → ⊥) → Reads (2 ∷ b) None
-no_out b B m lt e h (No n) f is = absurd (omega (arith, kinds is))
-no_out b B m lt e h Yes f is = absurd (omega (arith, kinds is))
-no_out b B m lt e h (Outs es) f is =
-    let same = two_same m (length es) B (listing es) lt f.0 (sym e ∙ ap (drop 1) is) in
-    h (omega (arith, same.0, ap length same.1, length_listing es))
-no_out b B m lt e h Full f is = absurd (omega (arith, kinds is))
+pub no_out : (b : List ℕ) → ((m : ℕ) (rest : List ℕ) → m < 65536 → b ≡ two m ++ rest → length rest ≡ 24 * m → ⊥) → Reads (2 ∷ b) None
+no_out b h (No n) f e = absurd (omega (arith, kinds e))
+no_out b h Yes f e = absurd (omega (arith, kinds e))
+no_out b h (Outs es) f e = h (length es) (listing es) f.0 (ap (drop 1) e) (length_listing es)
+no_out b h Full f e = absurd (omega (arith, kinds e))
 
 -- what is read of a count and the bytes behind it
 pub out_read : (b : List ℕ) (es : Events) (m : ℕ) (r : Option code.Reply) → ((i : ℕ) → get_or b i 0 < 256) → m < 65536 → b ≡ two m ++ es.bytes.now → r ≡ then_some (nat_eq (length es.bytes.now) (24 * m)) (code.TheVariants.Out es) → Reads (2 ∷ b) r
@@ -66,7 +64,7 @@ out_read b es m r f lt e is = subst (Reads (2 ∷ b)) (sym is) (go (nat_eq (leng
   where
     go : (t : Bool) → nat_eq (length es.bytes.now) (24 * m) ≡ t → Reads (2 ∷ b) (then_some t (code.TheVariants.Out es))
     go true h = out_told b es.bytes.now m f lt e (eqb-true _ _ h)
-    go false h = no_out b es.bytes.now m lt e (eqb-false _ _ h)
+    go false h = no_out b (λ k rest lt' e' long. let same = two_same m k es.bytes.now rest lt lt' (sym e ∙ e') in eqb-false _ _ h (omega (arith, same.0, ap length same.1, long)))
 
 -- a byte that no kind goes by
 pub no_kind : (b : ℕ) (rest : List ℕ) → ((k : Kind) → byte_of k ≡ b → ⊥) → Reads (b ∷ rest) None

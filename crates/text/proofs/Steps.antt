@@ -18,7 +18,9 @@ use Rattle.grammar.proofs.Wholes.{print_reads}
 use Rattle.tokens.proofs.Words.{word_case}
 use Rattle.text.specs.Position.{behind}
 use Rattle.text.specs.Says.{named_of}
-use Rattle.text.proofs.Ends.{EndOf, Leaves, reading_leaves}
+use Rattle.tokens.specs.Says.{EndOf}
+use Rattle.tokens.proofs.Ends.{Leaves}
+use Rattle.text.proofs.Ends.{reading_leaves}
 
 -- ---- the name of an aggregate
 pub aggregate_word : (bs s : List ℕ) → s ≡ skip bs → aggregate bs ≡ or_else (named_of (take_while is_ascii_alphanumeric s)) (bad Aggregate s) (λ a. got a (drop (prefix_len is_ascii_alphanumeric s) s))

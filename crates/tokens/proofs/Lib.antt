@@ -1,3 +1,4 @@
-mod Front
+pub mod Ends
+pub mod Front
 pub mod Hands
 pub mod Words

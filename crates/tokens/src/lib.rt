@@ -6,7 +6,7 @@ ghost use Rattle.std.specs.Prelude.{◌≡◌, ◌+◌, ◌-◌, ◌*◌, ◌^�
 ghost use Rattle.std.specs.List.{prefix_len, take_while};
 ghost use Rattle.std.specs.Char.{is_ascii_alphanumeric};
 ghost use Rattle.grammar.specs.Reading.{blank, is as is_here, starts_digit, starts_letter, is_the_word, skip as skip_of, digits as digits_of, number as number_of, limited as limited_of};
-ghost use Rattle.tokens.specs.Says.{Reads};
+ghost use Rattle.tokens.specs.Says.{Reads, EndOf, Ends};
 
 use crate::faults::Unexpected;
 use grammar::refusals::Why;
@@ -16,7 +16,8 @@ pub mod faults;
 
 // What is left behind the white space.
 pub fn skip(b: &[u8]) -> &[u8]
-    ensures { result.now ≡ skip_of b.now }
+    ensures is { result.now ≡ skip_of b.now }
+    ensures end { EndOf b.now result.now }
 {
     let mut rest = b;
     while let [first, after @ ..] = rest
@@ -93,7 +94,8 @@ fn with_digit(n: u64, digit: u8) -> Option<u64>
 
 // The number whose first digit stands here.
 pub fn digits(b: &[u8]) -> Result<(u64, &[u8]), Unexpected>
-    ensures { Reads (λ n. n) (digits_of b.now 0 b.now) result }
+    ensures reads { Reads (λ n. n) (digits_of b.now 0 b.now) result }
+    ensures end { Ends b.now result }
 {
     let mut n: u64 = 0;
     let mut rest = b;
@@ -123,7 +125,8 @@ pub fn number(b: &[u8]) -> Result<(u64, &[u8]), Unexpected>
 // The number behind white space, from `low` to 2^40; `why` says what any other is refused for.
 #[tactic(auto, using(crate::proofs::Front::in_range), unfolding(grammar::specs::Reading::limited, grammar::specs::Reading::after))]
 pub fn limited(b: &[u8], low: u64, why: Why) -> Result<(u64, &[u8]), Unexpected>
-    ensures { Reads (λ n. n) (limited_of why low b.now) result }
+    ensures reads { Reads (λ n. n) (limited_of why low b.now) result }
+    ensures end { Ends b.now result }
 {
     let (n, rest) = number(b)?;
     if (low..=MOST_SPAN).contains(&n) {

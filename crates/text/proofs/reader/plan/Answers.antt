@@ -12,4 +12,4 @@ returns-then-text-gt-LONGEST c = rw c.into.ensures (too_long c.args.text.now c.i
 
 pub returns : goal.returns
 returns c =
-    late_is c.args.text.now c.skip-place.result.now c.if-text-gt-LONGEST.false c.skip-place.ensures c.in_ok-rest.rest.now (grind (arith, common_steps, c.in_ok-rest.was, c.ok_or.ensures, c.strip_word.ensures)) (grind (arith, common_steps, c.in_ok-rest.was, c.ok_or.ensures, c.strip_word.ensures)) ∙ after_got _ _ c.in_ok-late.ensures ∙ after_got _ _ c.in_ok-stages.ensures
+    late_is c.args.text.now c.skip-place.result.now c.if-text-gt-LONGEST.false c.skip-place.ensures.is c.in_ok-rest.rest.now (grind (arith, common_steps, c.in_ok-rest.was, c.ok_or.ensures, c.strip_word.ensures)) (grind (arith, common_steps, c.in_ok-rest.was, c.ok_or.ensures, c.strip_word.ensures)) ∙ after_got _ _ c.in_ok-late.ensures.reads ∙ after_got _ _ c.in_ok-stages.ensures

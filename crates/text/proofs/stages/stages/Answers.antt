@@ -32,7 +32,7 @@ loop-rest-preserved c =
     let next = stage_of c.in_ok-next.next in
     let more : before ++ (next ∷ []) ≡ stages_in c.push.new.self = sym (ap (map stage_of) c.in_ok-push.ensures.items ∙ map-append stage_of (vec_items c.loop-rest.all) _) in
     subst (Staging (stages 8 [] c.args.b.now) c.skip-place-in-Some.result.now) more
-    (one_more (stages 8 [] c.args.b.now) c.loop-rest.place.now before c.loop-rest.invariant c.in-Some.rest.now next c.in_ok-next.rest.now c.skip-place-in-Some.result.now (omega arith) c.in-Some.ensures.0 c.in-Some.ensures.1 c.in_ok-next.ensures c.skip-place-in-Some.ensures)
+    (one_more (stages 8 [] c.args.b.now) c.loop-rest.place.now before c.loop-rest.invariant c.in-Some.rest.now next c.in_ok-next.rest.now c.skip-place-in-Some.result.now (omega arith) c.in-Some.ensures.0 c.in-Some.ensures.1 c.in_ok-next.ensures c.skip-place-in-Some.ensures.is)
 
 pub returns-then-not-is_empty : goal.returns-then-not-is_empty
 returns-then-not-is_empty c =

@@ -4,7 +4,7 @@ use Rattle.grammar.specs.declared.operators.Level.{Level}
 use Rattle.grammar.specs.declared.operators.Level.TheVariants.{Sum, Product}
 use Rattle.grammar.specs.Reading.{bracket}
 use Rattle.formulas.proofs.Chains.{Going}
-use Rattle.formulas.proofs.reader.+bracket_chain_expression_factor_operand.Given as goal
+use Rattle.formulas.proofs.reader.+bracket_chain_compared_factor_operand.Given as goal
 
 -- a sum is read before its operands, which are products
 abbrev rank : Level → ℕ
@@ -17,8 +17,8 @@ decreases-bracket l = 1000 * l.deep + 950
 abbrev pub decreases-chain : goal.decreases-chain
 decreases-chain l = 1000 * l.deep + rank l.level + 100
 
-abbrev pub decreases-expression : goal.decreases-expression
-decreases-expression l = 1000 * l.deep + 900
+abbrev pub decreases-compared : goal.decreases-compared
+decreases-compared l = 1000 * l.deep + 900
 
 abbrev pub decreases-factor : goal.decreases-factor
 decreases-factor l = 1000 * l.deep + 100 + l.nots
