@@ -14,14 +14,14 @@ use Rattle.calls.specs.declared.kinds.Refusal.TheVariants.{Invalid, NoLog, NotBu
 use Rattle.calls.specs.declared.kinds.Call.TheVariants.{Put, Out, Drop}
 use Rattle.calls.specs.Refuse.{is_no, Refuses}
 
-held : (b : Bool) → b ≡ true → T b
+pub held : (b : Bool) → b ≡ true → T b
 held b e = subst T (sym e) tt
 
-unheld : (b : Bool) → b ≡ false → T b → ⊥
+pub unheld : (b : Bool) → b ≡ false → T b → ⊥
 unheld true e t = let z : ◌≡◌ {A = ℕ} 0 1 = cc in omega arith
 unheld false e t = t
 
-fails : (b : Bool) → b ≡ false → T (not b)
+pub fails : (b : Bool) → b ≡ false → T (not b)
 fails true e = let z : ◌≡◌ {A = ℕ} 0 1 = cc in absurd (omega arith)
 fails false e = tt
 

@@ -13,7 +13,7 @@ use Rattle.calls.specs.declared.kinds.Kind.{Kind}
 use Rattle.calls.specs.declared.kinds.Kind.TheVariants as kind
 use Rattle.calls.specs.Form.{call_of, kind_of, byte_of, size_of, numbers_of, encoded, Fit, Unbuilt, ReadsNumbers, Reads, ReadAgain}
 
-kinds : {j k : ℕ} {xs ys : List ℕ} → j ∷ xs ≡ k ∷ ys → j ≡ k
+pub kinds : {j k : ℕ} {xs ys : List ℕ} → j ∷ xs ≡ k ∷ ys → j ≡ k
 kinds e = ap (λ l. get_or l 0 0) e
 
 -- the kind that goes by a byte, and the call of a kind with its numbers
@@ -32,7 +32,7 @@ kind_back kind.Still = refl
 kind_back kind.Out = refl
 kind_back kind.Drop = refl
 
-call_back : (c : Call) → Fit c → call_at (kind_of c) (numbers_of c) ≡ c
+pub call_back : (c : Call) → Fit c → call_at (kind_of c) (numbers_of c) ≡ c
 call_back (Put l (Happened e)) f =
     λ i. Put l (Happened (record { time = record { 0 = sym (eight_value e.time.0 f.1) i }; key = record { 0 = sym (eight_value e.key.0 f.2) i }; value = record { 0 = sym (eight_value e.value.0 f.3) i } }))
 call_back (Put l (Still t)) f = λ i. Put l (Still (record { 0 = sym (eight_value t.0 f.1) i }))

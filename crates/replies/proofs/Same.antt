@@ -24,7 +24,7 @@ kinds e = ap (λ l. get_or l 0 0) e
 abbrev reply_at : List ℕ → Reply
 reply_at bs = cond (get_or bs 0 0 == 0) (No (get_or bs 1 0)) (cond (get_or bs 0 0 == 1) Yes (cond (get_or bs 0 0 == 2) (Outs (listed (get_or bs 1 0 * 256 + get_or bs 2 0) (drop 3 bs))) Full))
 
-reply_back : (a : Reply) → Fit a → reply_at (form a) ≡ a
+pub reply_back : (a : Reply) → Fit a → reply_at (form a) ≡ a
 reply_back (No n) f = refl
 reply_back Yes f = refl
 reply_back (Outs es) f = ap Outs (ap (λ n. listed n (listing es)) (sym (two_value (length es) f.0)) ∙ listing_back es f.1)
@@ -50,6 +50,12 @@ out_told b B m f lt e h =
     let whole = ap (λ l. 2 ∷ two m ++ l) (sym (take_all (24 * m) B (omega arith))) in
     let few : length (events_in B) < 65536 = omega (arith, length_listed (length B / 24) B) in
     told (2 ∷ b) (Outs (events_in B)) (few, each_fit (length B / 24) B g) (ap (λ l. 2 ∷ l) e ∙ whole ∙ sym (out_form B m g is))
+
+-- a byte alone
+pub lone : (xs : List ℕ) → length xs ≡ 1 → xs ≡ get_or xs 0 0 ∷ []
+lone [] h = absurd (omega arith)
+lone (x ∷ []) h = refl
+lone (x ∷ y ∷ xs) h = absurd (omega arith)
 
 -- bytes that begin as an answer with events, and are none
 pub no_out : (b : List ℕ) → ((m : ℕ) (rest : List ℕ) → m < 65536 → b ≡ two m ++ rest → length rest ≡ 24 * m → ⊥) → Reads (2 ∷ b) None

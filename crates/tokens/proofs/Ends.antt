@@ -52,7 +52,7 @@ digits_leave start n text (c ∷ cs) s e =
     cond_leaves text (is_ascii_digit c) _ _ (cond_leaves text (ltb (n * 10 + (c - 48)) top) _ _ (digits_leave start (n * 10 + (c - 48)) text cs s (end_drop 1 text (c ∷ cs) e)) s)
     (cond_leaves text (letter c) _ _ e e)
 
-number_leaves : Tail number
+pub number_leaves : Tail number
 unfolding number
 number_leaves text bs e = let s = end_skip text bs e in cond_leaves text (starts_digit (skip bs)) _ _ (digits_leave (skip bs) 0 text (skip bs) s s) s
 

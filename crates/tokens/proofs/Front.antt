@@ -6,7 +6,7 @@ use Rattle.std.specs.Ordering.{is_le, nat_cmp}
 use Rattle.std.specs.Char.{is_ascii_digit}
 use Rattle.streams.specs.Meaning.{top}
 use Rattle.grammar.specs.declared.refusals.Why.TheVariants.{Large, Joined}
-use Rattle.grammar.specs.Reading.{bad, letter, skip, blank, starts_digit, starts_letter, digits}
+use Rattle.grammar.specs.Reading.{bad, is, letter, skip, blank, starts_digit, starts_letter, digits}
 
 -- where there is no first byte
 module _ (bs : List ℕ) (none : length bs < 1) where
@@ -16,6 +16,10 @@ module _ (bs : List ℕ) (none : length bs < 1) where
   pub no_digit : starts_digit bs ≡ false
   unfolding starts_digit
   no_digit = ap starts_digit is_nil
+
+  pub no_sign : (c : ℕ) → is c bs ≡ false
+  unfolding is
+  no_sign c = ap (is c) is_nil
 
   pub no_letter : starts_letter bs ≡ false
   unfolding starts_letter

@@ -2,7 +2,7 @@
 // gives what it read with the bytes behind it. Assumes nothing.
 #![tactic(auto, using(crate::proofs::Front::fronts))]
 
-ghost use Rattle.std.specs.Prelude.{◌≡◌, ◌+◌, ◌-◌, ◌*◌, ◌^◌, ◌<◌, ◌≤◌, false, true, length, drop, MatchOption};
+ghost use Rattle.std.specs.Prelude.{◌≡◌, ◌+◌, ◌-◌, ◌*◌, ◌^◌, ◌<◌, ◌≤◌, false, true, length, drop, IsSome, MatchOption};
 ghost use Rattle.std.specs.List.{prefix_len, take_while};
 ghost use Rattle.std.specs.Char.{is_ascii_alphanumeric};
 ghost use Rattle.grammar.specs.Reading.{blank, is as is_here, starts_digit, starts_letter, is_the_word, skip as skip_of, digits as digits_of, number as number_of, limited as limited_of};
@@ -37,7 +37,8 @@ fn is_blank(c: u8) -> bool
 // What is behind the byte `c`, if it stands here.
 #[tactic(auto, unfolding(grammar::specs::Reading::is))]
 pub fn strip_sign(b: &[u8], c: u8) -> Option<&[u8]>
-    ensures { MatchOption result (is_here c b.now ≡ false) (λ r. (is_here c b.now ≡ true) × (r.now ≡ drop 1 b.now)) }
+    ensures here { MatchOption result (is_here c b.now ≡ false) (λ r. (is_here c b.now ≡ true) × (r.now ≡ drop 1 b.now)) }
+    ensures room { IsSome result → 1 ≤ length b.now }
 {
     let (first, rest) = b.split_first()?;
     (*first == c).then_some(rest)
@@ -45,7 +46,8 @@ pub fn strip_sign(b: &[u8], c: u8) -> Option<&[u8]>
 
 // Whether a digit stands here.
 pub fn is_digit(b: &[u8]) -> bool
-    ensures { result ≡ starts_digit b.now }
+    ensures value { result ≡ starts_digit b.now }
+    ensures room { result ≡ true → 1 ≤ length b.now }
 {
     matches!(b, [b'0'..=b'9', ..])
 }
@@ -59,7 +61,8 @@ fn is_letter(b: &[u8]) -> bool
 // What is behind `word`, if it stands here, with neither a letter nor a digit right behind it.
 #[tactic(auto, using(crate::proofs::Words::word_prefix))]
 pub fn strip_word<'a>(b: &'a [u8], word: &[u8]) -> Option<&'a [u8]>
-    ensures { MatchOption result (is_the_word word.now b.now ≡ false) (λ r. (is_the_word word.now b.now ≡ true) × (r.now ≡ drop (length word.now) b.now)) }
+    ensures here { MatchOption result (is_the_word word.now b.now ≡ false) (λ r. (is_the_word word.now b.now ≡ true) × (r.now ≡ drop (length word.now) b.now)) }
+    ensures room { IsSome result → length word.now ≤ length b.now }
 {
     let rest = b.strip_prefix(word)?;
     if is_letter(rest) || is_digit(rest) {

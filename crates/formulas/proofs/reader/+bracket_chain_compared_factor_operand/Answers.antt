@@ -87,7 +87,7 @@ factor-returns-in_err-inner t c =
     let p = err_from_is_err_and c.from_residual-in_err-inner.result c.from_residual-in_err-inner.ensures.1 in
     let fewer : c.args.nots ≡ c.in_ok-fewer.fewer + 1 = grind (arith, common_steps, c.in_ok-fewer.was, c.ok_or.ensures, c.checked_sub.ensures) in
     rw (p.1, p.2) (stop_as c.in_err-inner.field-0.0
-    (factor_fewer (bracket c.args.deep) c.args.nots c.in_ok-fewer.fewer c.args.b.now c.skip-sign.result.now c.in-Some.behind.now c.skip-sign.ensures.is (sym c.in-Some.ensures.1) fewer c.in-Some.ensures.0)
+    (factor_fewer (bracket c.args.deep) c.args.nots c.in_ok-fewer.fewer c.args.b.now c.skip-sign.result.now c.in-Some.behind.now c.skip-sign.ensures.is (sym c.in-Some.ensures.here.1) fewer c.in-Some.ensures.here.0)
     (after_stop _ _ c.in_err-inner.field-0.0 c.in_err-inner.ensures))
 
 pub factor-returns-in_err-negated : goal.factor-returns-in_err-negated
@@ -95,12 +95,12 @@ factor-returns-in_err-negated t c =
     let p = err_from_is_err_and c.from_residual-in_err-negated.result c.from_residual-in_err-negated.ensures.1 in
     let fewer : c.args.nots ≡ c.in_ok-fewer.fewer + 1 = grind (arith, common_steps, c.in_ok-fewer.was, c.ok_or.ensures, c.checked_sub.ensures) in
     rw (p.1, p.2) (stop_as c.in_err-negated.field-0.0
-    (factor_fewer (bracket c.args.deep) c.args.nots c.in_ok-fewer.fewer c.args.b.now c.skip-sign.result.now c.in-Some.behind.now c.skip-sign.ensures.is (sym c.in-Some.ensures.1) fewer c.in-Some.ensures.0 ∙ after_got _ _ c.in_ok-inner.ensures)
+    (factor_fewer (bracket c.args.deep) c.args.nots c.in_ok-fewer.fewer c.args.b.now c.skip-sign.result.now c.in-Some.behind.now c.skip-sign.ensures.is (sym c.in-Some.ensures.here.1) fewer c.in-Some.ensures.here.0 ∙ after_got _ _ c.in_ok-inner.ensures)
     (c.in_err-negated.ensures c.in_ok-inner.rest.now))
 
 pub factor-returns-in-Some : goal.factor-returns-in-Some
 factor-returns-in-Some t c =
     let fewer : c.args.nots ≡ c.in_ok-fewer.fewer + 1 = grind (arith, common_steps, c.in_ok-fewer.was, c.ok_or.ensures, c.checked_sub.ensures) in
-    factor_fewer (bracket c.args.deep) c.args.nots c.in_ok-fewer.fewer c.args.b.now c.skip-sign.result.now c.in-Some.behind.now c.skip-sign.ensures.is (sym c.in-Some.ensures.1) fewer c.in-Some.ensures.0
+    factor_fewer (bracket c.args.deep) c.args.nots c.in_ok-fewer.fewer c.args.b.now c.skip-sign.result.now c.in-Some.behind.now c.skip-sign.ensures.is (sym c.in-Some.ensures.here.1) fewer c.in-Some.ensures.here.0
     ∙ after_got _ _ c.in_ok-inner.ensures
     ∙ c.in_ok-negated.ensures c.in_ok-inner.rest.now
